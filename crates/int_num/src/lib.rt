@@ -1,0 +1,4 @@
+//! Integers of widths 1 to 64, and the operations on them.
+#![tactic(auto)]
+
+pub mod int;

@@ -1,0 +1,10 @@
+//! The ground of every crate: bytes and lists, places in a module and in memory, and the traits of the outside.
+#![tactic(auto)]
+
+pub mod bytes;
+pub mod host;
+pub mod in_memory;
+pub mod list;
+pub mod outside;
+pub mod place;
+pub mod want;
