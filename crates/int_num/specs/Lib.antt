@@ -1,1 +1,3 @@
 pub mod Integer
+pub mod Operations
+pub mod Reductions

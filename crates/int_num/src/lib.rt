@@ -2,3 +2,6 @@
 #![tactic(auto)]
 
 pub mod int;
+pub mod ops;
+pub mod reduce;
+pub mod sign;
