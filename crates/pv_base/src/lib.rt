@@ -5,6 +5,9 @@ pub mod bytes;
 pub mod host;
 pub mod in_memory;
 pub mod list;
+pub mod name;
 pub mod outside;
 pub mod place;
+#[cfg(test)]
+mod tests;
 pub mod want;

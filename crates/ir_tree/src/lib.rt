@@ -1,0 +1,6 @@
+//! The trees of a module, and what a checked module keeps.
+#![tactic(auto)]
+
+pub mod checked;
+pub mod names;
+pub mod tree;

@@ -1,0 +1,42 @@
+-- The report of a run: its end line.
+use Rattle.std.specs.Prelude.{◌++◌, ℕ, List, [], codes, decimal, slice_get, Option, None, Some}
+use Rattle.std.specs.Fmt.{signed_decimal}
+use Rattle.int_num.specs.Integer.{Integer, signed}
+use Rattle.pv_base.specs.Outside.{Text}
+use Rattle.pv_base.specs.declared.place.Site.{Site}
+use Rattle.pv_base.specs.declared.name.Name.{Name}
+use Rattle.pv_base.specs.declared.name.Name.TheVariants.{Named, Numbered}
+use Rattle.ir_tree.specs.declared.tree.Function.{Function}
+use Rattle.ir_tree.specs.declared.tree.Module.{Module}
+use Rattle.privateer_core.specs.declared.machine.Trap.{Trap}
+use Rattle.privateer_core.specs.declared.machine.Trap.TheVariants.{UnsetRegister}
+use Rattle.privateer_core.specs.declared.machine.End.{End}
+use Rattle.privateer_core.specs.declared.machine.End.TheVariants.{Ended, Trapped, Spent}
+use Rattle.privateer_core.specs.declared.machine.Outcome.{Outcome}
+
+abbrev pub trap_word : Trap → Text
+trap_word UnsetRegister = codes "unset-register"
+
+-- a name as the report spells it; no module of today's form has one that needs quotes
+abbrev pub name_text : Name → Text
+name_text (Named bytes) = bytes
+name_text (Numbered n) = decimal n
+
+abbrev pub function_text : Option Function → Text
+function_text None = []
+function_text (Some f) = name_text f.name
+
+-- a site is spelled `@f:12`
+abbrev pub site_text : Module → Site → Text
+site_text m site = codes "@" ++ function_text (slice_get m.functions site.function) ++ codes ":" ++ decimal site.place
+
+-- how the run ended: `ended V steps N` with V signed, `trapped WORD SITE steps N`, or `spent N`
+abbrev pub end_line : Module → End → ℕ → Text
+end_line m (Ended v) steps = codes "ended " ++ signed_decimal (signed v) ++ codes " steps " ++ decimal steps ++ codes "\n"
+end_line m (Trapped t site) steps =
+    codes "trapped " ++ trap_word t ++ codes " " ++ site_text m site ++ codes " steps " ++ decimal steps ++ codes "\n"
+end_line m Spent steps = codes "spent " ++ decimal steps ++ codes "\n"
+
+-- the report of a run
+unfoldable pub report_text : Module → Outcome → Text
+report_text m o = end_line m o.end o.steps

@@ -1,0 +1,27 @@
+//! What a call answers: a status, what is put out and what is reported.
+ghost use Rattle.std.specs.Prelude.{◌≡◌, IfOk};
+ghost use Rattle.privateer_core.specs.Answers.{refuses};
+
+use pv_base::bytes::Bytes;
+use pv_base::want::Memory;
+use std::alloc::Global;
+
+/// The status of the process, the bytes for the output and those for the report.
+#[derive(Drop)]
+pub struct Answer {
+    pub status: u8,
+    pub out: Bytes,
+    pub report: Bytes,
+}
+
+/// A refusal with its line, which puts nothing out.
+pub fn refuse(alloc: Global, status: u8, line: &[u8]) -> Result<Answer, Memory>
+    ensures { IfOk result (λ a. a ≡ refuses status line.now) }
+{
+    let report = Bytes::from_slice(alloc, line)?;
+    Ok(Answer {
+        status,
+        out: Bytes::new(alloc),
+        report,
+    })
+}

@@ -1,0 +1,13 @@
+//! The top call: words, files, the run, and what is put out and reported.
+#![tactic(auto)]
+
+pub mod answer;
+pub mod commands;
+pub mod first_text;
+pub mod machine;
+pub mod number;
+pub mod report;
+#[cfg(test)]
+mod tests;
+pub mod top;
+pub mod words;
