@@ -5,3 +5,5 @@ pub mod WordLemmas
 pub mod Digits
 pub mod FileLemmas
 pub mod DeliverLemmas
+pub mod Pieces
+pub mod Spelling

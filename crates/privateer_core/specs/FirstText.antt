@@ -1,5 +1,5 @@
 -- The first form of module text: one function `main` of one block that returns an integer.
-use Rattle.std.specs.Prelude.{◌≡◌, ◌⊎◌, ◌++◌, ◌&&◌, ◌==◌, ◌||◌, ◌≤◌, ℕ, Bool, true, false, IsTrue, List, [], ◌∷◌, length, drop, Option, Some, None, option_and_then, option_map, codes, nat_le, nat_eq, if◌then◌else◌}
+use Rattle.std.specs.Prelude.{◌≡◌, ◌↔◌, ◌⊎◌, ◌++◌, ◌&&◌, ◌==◌, ◌||◌, ◌≤◌, ℕ, Bool, true, false, IsTrue, List, [], ◌∷◌, length, drop, Option, Some, None, option_and_then, option_map, codes, nat_le, nat_eq, if◌then◌else◌}
 use Rattle.std.specs.Borrow.{Bor}
 use Rattle.std.specs.List.{starts_with, before_first, after_first, list_all}
 use Rattle.std.specs.Char.{is_ascii_digit}
@@ -80,3 +80,31 @@ label_shown (Some label) = Named label.now
 
 abbrev pub block_shown : Option (Bor Text) × Integer → Block
 block_shown p = returning (label_shown p.0) p.1
+
+-- ---- the same as a relation between bytes and modules
+
+-- a text whose block has no written label
+pub record SpellsUnlabelled (text : Text) (m : Module) : Type 0 where
+  pub operand : Text
+  pub value : Integer
+  pub spelled : integer_of 32 operand ≡ Some value
+  pub text_is : text ≡ opening ++ (return_opening ++ (operand ++ 10 ∷ closing))
+  pub module_is : m ≡ main_module (returning (Numbered 0) value)
+
+-- a text whose block has the line `NAME:`
+pub record SpellsLabelled (text : Text) (m : Module) : Type 0 where
+  pub label : Text
+  pub operand : Text
+  pub value : Integer
+  pub named : is_name label ≡ true
+  pub spelled : integer_of 32 operand ≡ Some value
+  pub text_is : text ≡ opening ++ (label ++ 58 ∷ 10 ∷ (return_opening ++ (operand ++ 10 ∷ closing)))
+  pub module_is : m ≡ main_module (returning (Named label) value)
+
+-- the text spells the module
+abbrev pub Spells : Text → Module → Type 0
+Spells text m = SpellsUnlabelled text m ⊎ SpellsLabelled text m
+
+-- a text spells a module exactly where that is the module of the text
+abbrev pub IsSpelled : Type 0
+IsSpelled = (text : Text) (m : Module) → (module_of text ≡ Some m) ↔ Spells text m

@@ -4,6 +4,7 @@
 pub mod answer;
 pub mod commands;
 pub mod first_text;
+pub mod laws;
 pub mod machine;
 pub mod number;
 pub mod report;
