@@ -1,0 +1,14 @@
+use Rattle.std.proofs.Common.{ℕ, arith, rules}
+use Rattle.std.specs.Prelude.{◌≡◌, pos, neg_ℤ, FitsSigned}
+use Rattle.std.proofs.lemmas.Int.{ints}
+use Rattle.std.proofs.lemmas.Bool.Decides.{nat_tests}
+use Rattle.int_num.specs.Operations.{fits_signed}
+use Rattle.int_num.proofs.sign.fits_signed.Goals as goal
+
+pub returns-then-half-number : goal.returns-then-half-number
+unfolding fits_signed
+returns-then-half-number c = grind (arith, ints)
+
+pub returns-else-half-number : goal.returns-else-half-number
+unfolding fits_signed
+returns-else-half-number c = grind (arith, ints)
