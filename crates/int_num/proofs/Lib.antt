@@ -1,3 +1,5 @@
 pub mod Powers
 pub mod Residues
 pub mod Ranges
+pub mod Signs
+pub mod Quotients

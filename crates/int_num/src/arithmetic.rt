@@ -14,7 +14,13 @@ pub(crate) fn add(flags: Flags, a: Int, b: Int) -> Result<Int, Poison>
     let width = a.width();
     let unsigned = fits_unsigned(width, a.bits() as u128 + b.bits() as u128);
     let signed = fits_signed(width, signed(a) as i128 + signed(b) as i128);
-    keeps(Poison::Overflow, flags, unsigned, signed, low(width, a.bits().wrapping_add(b.bits())))
+    keeps(
+        Poison::Overflow,
+        flags,
+        unsigned,
+        signed,
+        low(width, a.bits().wrapping_add(b.bits())),
+    )
 }
 
 /// The difference of the bits, modulo 2^width.
@@ -46,5 +52,11 @@ pub(crate) fn mul(flags: Flags, a: Int, b: Int) -> Result<Int, Poison>
     let width = a.width();
     let unsigned = fits_unsigned(width, a.bits() as u128 * b.bits() as u128);
     let signed = fits_signed(width, signed(a) as i128 * signed(b) as i128);
-    keeps(Poison::Overflow, flags, unsigned, signed, low(width, a.bits().wrapping_mul(b.bits())))
+    keeps(
+        Poison::Overflow,
+        flags,
+        unsigned,
+        signed,
+        low(width, a.bits().wrapping_mul(b.bits())),
+    )
 }

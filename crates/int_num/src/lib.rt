@@ -2,8 +2,14 @@
 #![tactic(auto)]
 
 mod arithmetic;
+pub mod binary;
+mod bits;
+pub mod cast;
+pub mod compare;
+mod division;
 pub mod int;
 pub mod ops;
 mod promise;
 pub mod reduce;
+mod shifts;
 pub mod sign;

@@ -7,7 +7,13 @@ use crate::ops::{Flags, Poison};
 
 /// The value, or the cause where a range was promised and left: `nuw` that of unsigned numbers, `nsw` that of signed ones.
 #[tactic(auto, unfolding(crate::specs::Operations::keeps))]
-pub(crate) fn keeps(cause: Poison, flags: Flags, fits_unsigned: bool, fits_signed: bool, value: Int) -> Result<Int, Poison>
+pub(crate) fn keeps(
+    cause: Poison,
+    flags: Flags,
+    fits_unsigned: bool,
+    fits_signed: bool,
+    value: Int,
+) -> Result<Int, Poison>
     ensures { result ≡ keeps cause flags fits_unsigned fits_signed value }
 {
     if flags.nuw && !fits_unsigned {
@@ -24,5 +30,9 @@ pub(crate) fn keeps(cause: Poison, flags: Flags, fits_unsigned: bool, fits_signe
 pub(crate) fn without_rest(flags: Flags, rest: u64, value: Int) -> Result<Int, Poison>
     ensures { result ≡ without_rest flags rest value }
 {
-    if flags.exact && rest != 0 { Err(Poison::Flag) } else { Ok(value) }
+    if flags.exact && rest != 0 {
+        Err(Poison::Flag)
+    } else {
+        Ok(value)
+    }
 }

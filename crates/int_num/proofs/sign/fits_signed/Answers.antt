@@ -1,7 +1,5 @@
-use Rattle.std.proofs.Common.{ℕ, arith, rules}
-use Rattle.std.specs.Prelude.{◌≡◌, pos, neg_ℤ, FitsSigned}
+use Rattle.std.proofs.Common.{arith}
 use Rattle.std.proofs.lemmas.Int.{ints}
-use Rattle.std.proofs.lemmas.Bool.Decides.{nat_tests}
 use Rattle.int_num.specs.Operations.{fits_signed}
 use Rattle.int_num.proofs.sign.fits_signed.Goals as goal
 

@@ -1,4 +1,4 @@
-use Rattle.std.proofs.Common.{ℕ, ◌+◌, ◌-◌, ◌*◌, ◌<◌, ◌≤◌, ◌≡◌, ◌^◌, ◌∙◌, ap, leb, arith, rules}
+use Rattle.std.proofs.Common.{◌∙◌, ap, leb}
 use Rattle.int_num.proofs.Ranges.{fits_unsigned_of}
 use Rattle.int_num.proofs.sign.fits_unsigned.Goals as goal
 

@@ -1,4 +1,4 @@
-use Rattle.std.proofs.Common.{ℕ, ◌-◌, ◌^◌, ◌≡◌, ◌∙◌, ap, bit_and}
+use Rattle.std.proofs.Common.{◌∙◌, ap, bit_and}
 use Rattle.std.proofs.lemmas.Nat.{and_mask}
 use Rattle.int_num.specs.Operations.{of_bits}
 use Rattle.int_num.proofs.sign.low.Goals as goal
