@@ -3,3 +3,4 @@ pub mod Residues
 pub mod Ranges
 pub mod Signs
 pub mod Quotients
+pub mod Widths

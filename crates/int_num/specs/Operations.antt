@@ -150,7 +150,7 @@ cast Zext flags a width = zext flags a width
 cast Sext flags a width = sext a width
 
 -- `trunc` goes to a smaller width, and the others to a larger one
-abbrev pub Fits : CastOp → ℕ → ℕ → Type 0
-Fits Trunc old new = new < old
-Fits Zext old new = old < new
-Fits Sext old new = old < new
+abbrev pub FitsCast : CastOp → ℕ → ℕ → Type 0
+FitsCast Trunc old new = new < old
+FitsCast Zext old new = old < new
+FitsCast Sext old new = old < new

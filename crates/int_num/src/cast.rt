@@ -1,7 +1,7 @@
 //! Changes of width.
 ghost use Rattle.std.specs.Prelude.{◌≡◌, ◌<◌};
 ghost use Rattle.int_num.specs.Integer.{IsWidth};
-ghost use Rattle.int_num.specs.Operations.{trunc, zext, sext, cast, Fits};
+ghost use Rattle.int_num.specs.Operations.{trunc, zext, sext, cast, FitsCast};
 
 use crate::int::Int;
 use crate::ops::{CastOp, Flags, Poison};
@@ -33,7 +33,7 @@ fn zext(flags: Flags, a: Int, width: u32) -> Result<Int, Poison>
 #[tactic(auto, unfolding(crate::specs::Operations::cast))]
 pub fn cast(op: CastOp, flags: Flags, a: Int, width: u32) -> Result<Int, Poison>
     requires range { IsWidth width }
-    requires fits { Fits op a.width width }
+    requires fits { FitsCast op a.width width }
     ensures { result ≡ cast op flags a width }
 {
     match op {

@@ -8,6 +8,7 @@ pub mod cast;
 pub mod compare;
 mod division;
 pub mod int;
+pub mod laws;
 pub mod ops;
 mod promise;
 pub mod reduce;
