@@ -14,3 +14,7 @@ mod promise;
 pub mod reduce;
 mod shifts;
 pub mod sign;
+#[cfg(test)]
+mod table;
+#[cfg(test)]
+mod tests;
