@@ -1,12 +1,15 @@
 #!/usr/bin/env python3
-"""Writes the table of crates/int_num/src/table.rt: operations on integers at their edges, and what they answer.
+"""Writes the tables of crates/int_num: operations on integers at their edges, and what they answer.
 
 The answers are computed here on Python's unbounded integers, from the rules of the LLVM Language Reference and of this
 project (the causes of a division or a shift, and that a flag that is broken is a cause). Nothing is shared with the crate.
 
-    python3 bench/int_table.py > crates/int_num/src/table.rt
+    python3 bench/int_table.py operations > crates/int_num/src/table.rt
+    python3 bench/int_table.py others > crates/int_num/src/other_table.rt
+    cd crates/int_num && rt fmt
 """
 import random
+import sys
 
 WIDTHS = [1, 7, 8, 31, 32, 63, 64]
 NONE, OVERFLOW, SHIFT, DIVIDE, FLAG = range(5)
@@ -226,12 +229,12 @@ def show(name, what, rows):
     print("];")
 
 
-def main():
-    print("//! Operations at their edges, written by `bench/int_table.py` from Python's unbounded integers.")
-    print("//!")
-    print("//! Flags are 1 `nsw`, 2 `nuw`, 4 `exact`, 8 `disjoint` and 16 `nneg`; a cause is 0 none, 1 Overflow, 2 Shift, 3 Divide, 4 Flag.")
+def operations():
     for name, operation, flag_sets in BINARY:
         show(name, "Width, flags, both operands, cause, value.", rows_of_binary(operation, flag_sets))
+
+
+def others():
     for name, operation, flag_sets in CASTS:
         show(name, "Old width, flags, operand, new width, cause, value.", rows_of_cast(operation, flag_sets, name == "TRUNC"))
     chance = random.Random("pairs")
@@ -239,6 +242,16 @@ def main():
     show("COMPARE", "Width, both operands, a bit for each predicate.", rows)
     rows = [(width, a, b) + reduced(width, a, b) for width in WIDTHS for a, b in pairs_at(width, 2, chance)]
     show("REDUCE", "Width, both operands, what each reduction gives.", rows)
+
+
+def main():
+    which = sys.argv[1]
+    what = {"operations": "Operations", "others": "Changes of width, comparisons and reductions"}[which]
+    print(f"//! {what} at their edges, written by `bench/int_table.py` from Python's unbounded integers.")
+    print("//!")
+    print("//! Flags are 1 `nsw`, 2 `nuw`, 4 `exact`, 8 `disjoint` and 16 `nneg`; a cause is 0 none, 1 Overflow, 2 Shift,")
+    print("//! 3 Divide, 4 Flag.")
+    {"operations": operations, "others": others}[which]()
 
 
 main()

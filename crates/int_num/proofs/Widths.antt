@@ -1,12 +1,12 @@
 -- The results of the operations are integers of the right width.
-use Rattle.std.proofs.Common.{ℕ, zero, suc, ◌+◌, ◌-◌, ◌*◌, ◌/◌, ◌%◌, ◌^◌, ◌<◌, ◌≤◌, ◌≡◌, Bool, true, false, refl, sym, ap, ◌∙◌, subst, arith, rules, Result, Ok, Err, bit_and, bit_or, bit_xor, eqb, ltb}
+use Rattle.std.proofs.Common.{ℕ, ◌+◌, ◌*◌, ◌/◌, ◌%◌, ◌^◌, ◌<◌, ◌≤◌, ◌≡◌, Bool, true, false, refl, sym, arith, Result, Ok, Err, bit_and, bit_or, bit_xor, eqb, ltb}
 use Rattle.std.specs.Prelude.{ℤ, pos, negsuc, ◌&&◌, not, int_lt, IfOk, if◌then◌else◌}
 use Rattle.std.proofs.Math.Nat.{mod-lt, mod-le, div-le_self}
 use Rattle.std.proofs.Math.Pow.{pow_pos, pow_mono}
 use Rattle.std.proofs.lemmas.Nat.{and_le_l, or_lt, xor_lt}
 use Rattle.int_num.specs.Integer.{Integer, IsWidth, IsInteger, HasWidth, signed}
-use Rattle.int_num.specs.Operations.{binary, cast, FitsCast, of_bits, modulo, residue, keeps, without_rest, udiv, urem, sdiv, srem, divides, shl, lshr, ashr, conjunction, disjunction, difference, or_of}
-use Rattle.int_num.specs.Reductions.{reduce, identity, identity_bits}
+use Rattle.int_num.specs.Operations.{binary, cast, of_bits, modulo, residue, keeps, without_rest, udiv, urem, sdiv, srem, divides, shl, lshr, ashr, conjunction, disjunction, difference, or_of}
+use Rattle.int_num.specs.Reductions.{reduce, identity_bits}
 use Rattle.int_num.specs.Laws.{BinaryKeepsWidth, CastHasWidth, ReduceKeepsWidth, IdentityHasWidth}
 use Rattle.int_num.specs.declared.ops.BinOp.TheVariants.{Add, Sub, Mul, Udiv, Sdiv, Urem, Srem, Shl, Lshr, Ashr, And, Or, Xor}
 use Rattle.int_num.specs.declared.ops.CastOp.TheVariants.{Trunc, Zext, Sext}

@@ -10,6 +10,8 @@ mod division;
 pub mod int;
 pub mod laws;
 pub mod ops;
+#[cfg(test)]
+mod other_table;
 mod promise;
 pub mod reduce;
 mod shifts;

@@ -10,7 +10,7 @@ use crate::int::Int;
 use crate::ops::{BinOp, CastOp, Flags, Poison, Pred, RedOp};
 use crate::reduce::{identity, reduce};
 use crate::sign::{low, signed};
-use crate::table;
+use crate::{other_table, table};
 use std::process::Abort;
 
 fn flags_of(code: u64) -> Flags {
@@ -92,9 +92,9 @@ fn casts(op: CastOp, rows: &[[u64; 6]], rt: &impl Abort) {
 
 #[test]
 fn changes_of_width(rt: HostRuntime) {
-    casts(CastOp::Trunc, &table::TRUNC, &rt);
-    casts(CastOp::Zext, &table::ZEXT, &rt);
-    casts(CastOp::Sext, &table::SEXT, &rt);
+    casts(CastOp::Trunc, &other_table::TRUNC, &rt);
+    casts(CastOp::Zext, &other_table::ZEXT, &rt);
+    casts(CastOp::Sext, &other_table::SEXT, &rt);
 }
 
 #[test]
@@ -111,7 +111,7 @@ fn comparisons(rt: HostRuntime) {
         Pred::Slt,
         Pred::Sle,
     ];
-    for [width, a, b, tests] in table::COMPARE {
+    for [width, a, b, tests] in other_table::COMPARE {
         let width = width_of(width, &rt);
         let mut rest = tests;
         for pred in preds {
@@ -135,7 +135,7 @@ fn reductions(rt: HostRuntime) {
         RedOp::Umax,
         RedOp::Umin,
     ];
-    for [width, a, b, add, mul, and, or, xor, smax, smin, umax, umin] in table::REDUCE {
+    for [width, a, b, add, mul, and, or, xor, smax, smin, umax, umin] in other_table::REDUCE {
         let width = width_of(width, &rt);
         let wanted = [add, mul, and, or, xor, smax, smin, umax, umin];
         for (op, want) in ops.into_iter().zip(wanted) {
