@@ -1,0 +1,4 @@
+pub mod Picture
+pub mod Calls
+pub mod Words
+pub mod Entries

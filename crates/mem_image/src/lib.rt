@@ -1,0 +1,8 @@
+//! The memory of symbolic bytes: objects with names, pointers into them, and what every memory does at its calls.
+#![tactic(auto)]
+
+pub mod fault;
+pub mod image;
+pub mod memory;
+pub mod object;
+pub mod word;
