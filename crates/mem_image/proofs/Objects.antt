@@ -1,6 +1,7 @@
 -- What changes of a list of objects keep.
-use Rattle.std.proofs.Common.{◌≡◌, ℕ, suc, ◌+◌, ◌<◌, ◌≤◌, ◌==◌, Bool, true, false, List, [], ◌∷◌, ◌++◌, length, take, drop, Option, Some, None, arith, refl, sym, ap, subst, if◌then◌else◌}
+use Rattle.std.proofs.Common.{◌≡◌, ℕ, suc, ◌+◌, ◌<◌, ◌≤◌, ◌==◌, Bool, true, false, List, [], ◌∷◌, ◌++◌, length, take, drop, Option, Some, None, arith, refl, sym, ap, subst, replicate, if◌then◌else◌}
 use Rattle.std.proofs.lemmas.Grind.{common_steps}
+use Rattle.std.proofs.lemmas.List.{length-replicate}
 use Rattle.std.proofs.lemmas.List.Elements.{All-append, All-take, All-drop}
 use Rattle.std.specs.List.{All}
 use Rattle.mem_image.specs.declared.object.Byte.{Byte}
@@ -77,3 +78,6 @@ with_bytes_none name bytes [] e = refl
 with_bytes_none name bytes (o ∷ os) e = (elim (name == o.name) as (λ b. (if b then Some o else find name os) ≡ None → (if b then record o { bytes = bytes } ∷ os else o ∷ with_bytes name bytes os) ≡ o ∷ os) [
     true ↦ λ q. cc
     | false ↦ λ q. ap (λ xs. o ∷ xs) (with_bytes_none name bytes os q) ]) e
+
+pub spliced_replicate : (bytes : List Byte) (at len : ℕ) (x : Byte) → spliced bytes at (replicate len x) ≡ take at bytes ++ replicate len x ++ drop (at + len) bytes
+spliced_replicate bytes at len x = ap (λ n. take at bytes ++ replicate len x ++ drop (at + n) bytes) (length-replicate len x)

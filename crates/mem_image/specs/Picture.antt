@@ -186,13 +186,18 @@ make m site kind n zeroed = if over m n then past kind m else if nat_lt m.next n
 abbrev pub remove : Picture → ℕ → Picture
 remove m name = record m { objects = without name m.objects }
 
-abbrev pub released : Picture → Option Object → Result Picture Trap
-released m None = Err Free
-released m (Some o) = elim o.kind [ Heap ↦ Ok (remove m o.name) | Stack ↦ Err Free | Global ↦ Err Free ]
+abbrev pub freed : Picture → ℕ → Kind → Result Picture Trap
+freed m name Heap = Ok (remove m name)
+freed m name Stack = Err Free
+freed m name Global = Err Free
+
+abbrev pub released : Picture → ℕ → Option Object → Result Picture Trap
+released m name None = Err Free
+released m name (Some o) = freed m name o.kind
 
 -- the memory after a release: free, unless the pointer is to the start of a live object that was requested at run time
 abbrev pub release : Picture → Pointer → Result Picture Trap
-release m (Obj name (pos zero)) = released m (find name m.objects)
+release m (Obj name (pos zero)) = released m name (find name m.objects)
 release m (Obj name (pos (suc o))) = Err Free
 release m (Obj name (negsuc o)) = Err Free
 release m Null = Err Free

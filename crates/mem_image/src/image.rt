@@ -1,8 +1,8 @@
 //! The plain memory.
-ghost use Rattle.std.specs.Prelude.{◌≡◌, ◌+◌, ◌<◌, ◌≤◌, ℕ, length, IfOk, IfErr, IfSome, OnOk, OnErr, Result, [], Some, Ok, Err, replicate, false, ◌^◌};
+ghost use Rattle.std.specs.Prelude.{◌≡◌, ◌+◌, ◌<◌, ◌≤◌, ℕ, length, IfOk, IfErr, IfSome, OnOk, OnErr, Result, [], Some, Ok, Err, replicate, ◌^◌};
 ghost use Rattle.std.specs.List.{All};
 ghost use Rattle.std.specs.Option.{option_copied};
-ghost use Rattle.mem_image.specs.Picture.{PartFits, IsPicture, find, bytes_at, access, write_access, bytes_from, lay, read, write, fill, apart, over, added, add, remove, release, end_frame, name_limit};
+ghost use Rattle.mem_image.specs.Picture.{PartFits, IsPicture, find, bytes_at, access, write_access, bytes_from, lay, read, write, fill, apart, over, added, add, remove, release, end_frame, live, live_limit, name_limit, size_of};
 ghost use Rattle.mem_image.specs.Calls.{Fits, ImageAnswers, NoCheck, does, done_reply, done, replied, Done};
 ghost use Rattle.mem_image.specs.declared.object.Byte.TheVariants.{Num};
 
@@ -173,7 +173,7 @@ impl Image {
         fixed: bool,
         bytes: List<Byte>,
     ) -> Result<u32, Memory>
-        requires room { over self.old (length bytes) ≡ false }
+        requires room { live self.old.objects + length bytes ≤ live_limit }
         requires names { self.old.next < name_limit }
         requires parts { All PartFits bytes }
         ensures name { IfOk result (λ name. name ≡ self.old.next) }
@@ -299,14 +299,10 @@ impl Image {
 
 /// Whether two ranges of one length are one range, or have no byte in common.
 fn apart(p: Place, q: Place, len: u64) -> bool
-    requires p { p.offset + len < 2 ^ 64 }
-    requires q { q.offset + len < 2 ^ 64 }
     ensures { result ≡ apart p q len }
 {
-    p.name != q.name
-        || p.offset == q.offset
-        || p.offset + len <= q.offset
-        || q.offset + len <= p.offset
+    let gap = p.offset.abs_diff(q.offset);
+    p.name != q.name || gap == 0 || gap >= len
 }
 
 /// An image does what the pure model of the calls says, and is always ready.
