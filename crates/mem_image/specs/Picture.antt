@@ -31,7 +31,7 @@ name_limit = 2 ^ 31
 abbrev pub PartFits : Byte → Type 0
 PartFits Unset = Unit {0}
 PartFits (Num n) = Unit {0}
-PartFits (Ptr pointer part) = part < 8
+PartFits (Ptr part pointer) = part < 8
 
 -- one to eight bytes
 pub record IsWord (bytes : List Byte) : Type 0 where

@@ -3,6 +3,12 @@
 
 pub mod fault;
 pub mod image;
+pub mod laws;
 pub mod memory;
 pub mod object;
 pub mod word;
+
+#[cfg(test)]
+mod guarded;
+#[cfg(test)]
+mod tests;

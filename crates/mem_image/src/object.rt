@@ -20,8 +20,11 @@ pub enum Pointer {
 pub enum Byte {
     Unset,
     Num(u8),
-    Ptr { pointer: Pointer, part: u8 },
+    Ptr { part: u8, pointer: Pointer },
 }
+
+// What a byte of live memory takes. The part stands first in the variant so that it lies beside the tag.
+const _: () = prove!(size_of::<Byte>() == 24);
 
 /// What made an object: a global variable, a stack slot of a frame, or a request at run time.
 #[derive(Clone, Copy, Debug, PartialEq, Eq)]
