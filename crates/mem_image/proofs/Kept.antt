@@ -1,10 +1,10 @@
 -- What a map of objects by name says of the list of its values.
-use Rattle.std.proofs.Common.{◌≡◌, ℕ, ◌+◌, ◌<◌, ◌≤◌, ◌==◌, ◌-◌, ◌∙◌, IfSome, Bor, Bool, true, false, List, [], ◌∷◌, ◌++◌, length, Option, Some, None, arith, refl, sym, ap, subst, cond, if◌then◌else◌, nat_lt}
+use Rattle.std.proofs.Common.{◌≡◌, ℕ, ◌+◌, ◌<◌, ◌≤◌, ◌==◌, ◌-◌, ◌∙◌, IfSome, Bor, true, false, List, [], ◌∷◌, ◌++◌, length, Option, Some, None, arith, refl, sym, ap, subst, cond, if◌then◌else◌}
 use Rattle.std.specs.List.{All}
 use Rattle.std.specs.Option.{option_copied}
 use Rattle.std.specs.Map.{lookup, set_value, remove_entry, values_of}
-use Rattle.std.specs.Ordering.{nat_cmp, match_ordering}
-use Rattle.std.specs.declared.cmp.Ordering.TheVariants.{Less, Equal, Greater}
+use Rattle.std.specs.Ordering.{nat_cmp}
+use Rattle.std.specs.declared.cmp.Ordering.TheVariants.{Greater}
 use Rattle.std.specs.BTreeMap.{is_at, insert_entry}
 use Rattle.std.specs.Cmp.{unsigned_tied, nat_cmp_is}
 use Rattle.pv_base.specs.declared.place.Place.{Place}
@@ -24,14 +24,16 @@ lookup_is name (e ∷ es) h = rw (tested name e h.0, lookup_is name es h.1) refl
 pub values_removed : (name : ℕ) (es : List (ℕ × Object)) → Keyed es → values_of (remove_entry (is_at (nat_cmp name)) es) ≡ without name (values_of es)
 values_removed name [] h = refl
 values_removed name (e ∷ es) h = rw (tested name e h.0) elim (name == e.1.name) as (λ b. values_of (cond b es (e ∷ remove_entry (is_at (nat_cmp name)) es)) ≡ (if b then values_of es else e.1 ∷ without name (values_of es))) [
-    true ↦ refl
-    | false ↦ ap (λ os. e.1 ∷ os) (values_removed name es h.1) ]
+  | true ↦ refl
+  | false ↦ ap (λ os. e.1 ∷ os) (values_removed name es h.1)
+]
 
 pub keyed_removed : (name : ℕ) (es : List (ℕ × Object)) → Keyed es → Keyed (remove_entry (is_at (nat_cmp name)) es)
 keyed_removed name [] h = tt
 keyed_removed name (e ∷ es) h = elim (is_at (nat_cmp name) e.0) as (λ b. Keyed (cond b es (e ∷ remove_entry (is_at (nat_cmp name)) es))) [
-    true ↦ h.1
-    | false ↦ (h.0, keyed_removed name es h.1) ]
+  | true ↦ h.1
+  | false ↦ (h.0, keyed_removed name es h.1)
+]
 
 pub keyed_pushed : (es : List (ℕ × Object)) (e : ℕ × Object) → Keyed es → e.0 ≡ e.1.name → Keyed (es ++ e ∷ [])
 keyed_pushed [] e h k = (k, tt)
@@ -56,14 +58,16 @@ found_parts (Some b) name es n sum k e = parts_of name (values_of es) n b.now k.
 pub keyed_set : (name : ℕ) (es : List (ℕ × Object)) (o p : Object) → Keyed es → lookup (is_at (nat_cmp name)) es ≡ Some o → p.name ≡ o.name → Keyed (set_value (is_at (nat_cmp name)) es p)
 keyed_set name [] o p h e q = tt
 keyed_set name (x ∷ es) o p h e q = (elim (is_at (nat_cmp name) x.0) as (λ b. cond b (Some x.1) (lookup (is_at (nat_cmp name)) es) ≡ Some o → Keyed (cond b ((x.0, p) ∷ es) (x ∷ set_value (is_at (nat_cmp name)) es p))) [
-    true ↦ λ f. (cc, h.1)
-    | false ↦ λ f. (h.0, keyed_set name es o p h.1 f q) ]) e
+  | true ↦ λ f. (cc, h.1)
+  | false ↦ λ f. (h.0, keyed_set name es o p h.1 f q)
+]) e
 
 pub values_set : (name : ℕ) (bytes : List Byte) (es : List (ℕ × Object)) (o : Object) → Keyed es → lookup (is_at (nat_cmp name)) es ≡ Some o → values_of (set_value (is_at (nat_cmp name)) es (record o { bytes = bytes })) ≡ with_bytes name bytes (values_of es)
 values_set name bytes [] o h e = refl
 values_set name bytes (x ∷ es) o h e = rw (← tested name x h.0) ((elim (is_at (nat_cmp name) x.0) as (λ b. cond b (Some x.1) (lookup (is_at (nat_cmp name)) es) ≡ Some o → values_of (cond b ((x.0, record o { bytes = bytes }) ∷ es) (x ∷ set_value (is_at (nat_cmp name)) es (record o { bytes = bytes }))) ≡ (if b then record x.1 { bytes = bytes } ∷ values_of es else x.1 ∷ with_bytes name bytes (values_of es))) [
-    true ↦ λ f. ap (λ y. elim y [ Some z ↦ record z { bytes = bytes } ∷ values_of es | None ↦ [] ]) (sym f)
-    | false ↦ λ f. ap (λ os. x.1 ∷ os) (values_set name bytes es o h.1 f) ]) e)
+  | true ↦ λ f. ap (λ y. elim y [ Some z ↦ record z { bytes = bytes } ∷ values_of es | None ↦ [] ]) (sym f)
+  | false ↦ λ f. ap (λ os. x.1 ∷ os) (values_set name bytes es o h.1 f)
+]) e)
 
 -- the map after other bytes of the same number were put into an object
 pub kept_set : (name : ℕ) (bytes : List Byte) (es : List (ℕ × Object)) (n sum : ℕ) (o : Object) → IsKept es n sum → lookup (is_at (nat_cmp name)) es ≡ Some o → length bytes ≡ length o.bytes → All PartFits bytes → IsKept (set_value (is_at (nat_cmp name)) es (record o { bytes = bytes })) n sum

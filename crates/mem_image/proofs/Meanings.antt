@@ -1,9 +1,9 @@
 -- The laws of the calls, from their definitions.
-use Rattle.std.proofs.Common.{◌≡◌, ◌≢◌, ℕ, suc, zero, ◌+◌, ◌<◌, ◌≤◌, ◌==◌, ◌||◌, ℤ, pos, negsuc, nat_le, nat_lt, Bool, true, false, List, [], ◌∷◌, ◌++◌, length, take, drop, slice_range, replicate, Option, Some, None, Result, Ok, Err, arith, refl, sym, ◌∙◌, ap, subst, if◌then◌else◌, inl, inr}
+use Rattle.std.proofs.Common.{◌≡◌, ◌≢◌, ℕ, suc, zero, ◌+◌, ◌<◌, ◌≤◌, ◌==◌, ◌||◌, ℤ, pos, negsuc, nat_le, nat_lt, Bool, true, false, List, [], ◌∷◌, length, slice_range, replicate, Option, Some, None, Result, Ok, Err, arith, refl, sym, ◌∙◌, ap, subst, if◌then◌else◌, inl, inr}
 use Rattle.std.proofs.lemmas.Grind.{common_steps}
 use Rattle.std.proofs.lemmas.Bool.Decides.{nat_tests, eqb_tells}
 use Rattle.std.proofs.lemmas.List.{length-replicate}
-use Rattle.std.proofs.lemmas.List.Elements.{All-replicate, All-take, All-drop}
+use Rattle.std.proofs.lemmas.List.Elements.{All-replicate}
 use Rattle.std.specs.List.{All}
 use Rattle.pv_base.specs.declared.place.AllocSite.{AllocSite}
 use Rattle.pv_base.specs.declared.place.AllocSite.TheVariants.{At}
@@ -11,13 +11,13 @@ use Rattle.pv_base.specs.declared.place.Place.{Place}
 use Rattle.mem_image.specs.declared.object.Pointer.{Pointer}
 use Rattle.mem_image.specs.declared.object.Pointer.TheVariants.{Null, Obj, Fun}
 use Rattle.mem_image.specs.declared.object.Byte.{Byte}
-use Rattle.mem_image.specs.declared.object.Byte.TheVariants.{Unset, Num, Ptr}
+use Rattle.mem_image.specs.declared.object.Byte.TheVariants.{Unset, Num}
 use Rattle.mem_image.specs.declared.object.Kind.{Kind}
 use Rattle.mem_image.specs.declared.object.Kind.TheVariants.{Global, Stack, Heap}
 use Rattle.mem_image.specs.declared.object.Object.{Object}
 use Rattle.mem_image.specs.declared.fault.Trap.{Trap}
 use Rattle.mem_image.specs.declared.fault.Trap.TheVariants.{Names}
-use Rattle.mem_image.specs.Picture.{Picture, PartFits, Rising, IsPicture, live, live_limit, name_limit, find, with_bytes, without, without_all, bytes_of, bytes_at, is_fixed, reached, access, unfixed, write_access, bytes_from, read, read_at, spliced, lay, laid, write, fill, copied, copy, apart, over, added, fresh, past, make, remove, freed, released, release, end_frame}
+use Rattle.mem_image.specs.Picture.{Picture, PartFits, Rising, IsPicture, live, live_limit, name_limit, find, with_bytes, without, bytes_of, bytes_at, is_fixed, reached, access, unfixed, write_access, bytes_from, read, read_at, spliced, lay, laid, write, fill, copied, copy, apart, over, added, fresh, past, make, remove, freed, released, release, end_frame}
 use Rattle.mem_image.specs.Calls.{Call, Reply, does, done_reply, made_reply, read_reply, ReadWord, WriteWord, CopyRange, Fill, Make, Release, EndFrame, Bytes, Made, Done}
 use Rattle.mem_image.specs.Laws.{IsCall}
 use Rattle.mem_image.proofs.Objects.{rising_without, rising_with_bytes, rising_pushed, parts_at, live_pushed, live_without, live_with_bytes, length_spliced, parts_spliced}
@@ -138,9 +138,9 @@ make_keeps m n site kind size zeroed reply k e = within (over m size) (nat_lt m.
     within true l p q e = subst IsPicture (past_keeps m n kind reply e) k
     within false false p q e = absurd (cc)
     within false true p q e =
-      let room : live m.objects + length (fresh size zeroed) ≤ live_limit = rw (length-replicate size (if zeroed then Num 0 else Unset)) (grind (arith, nat_tests, p)) in
-      let names : m.next < name_limit = grind (arith, nat_tests, q) in
-      subst IsPicture (after (added m site kind false (fresh size zeroed)) n (Made (Obj m.next (pos 0))) reply e) (added_keeps m site kind false (fresh size zeroed) k room names (fresh_parts size zeroed))
+        let room : live m.objects + length (fresh size zeroed) ≤ live_limit = rw (length-replicate size (if zeroed then Num 0 else Unset)) (grind (arith, nat_tests, p)) in
+        let names : m.next < name_limit = grind (arith, nat_tests, q) in
+        subst IsPicture (after (added m site kind false (fresh size zeroed)) n (Made (Obj m.next (pos 0))) reply e) (added_keeps m site kind false (fresh size zeroed) k room names (fresh_parts size zeroed))
 
 freed_is : (m n : Picture) (name : ℕ) (kind : Kind) → freed m name kind ≡ Ok n → remove m name ≡ n
 freed_is m n name Heap e = cc
@@ -173,8 +173,9 @@ calls_keep m n (EndFrame names) reply k w e = subst IsPicture (after (end_frame 
 pub find_others : (name other : ℕ) (bytes : List Byte) (os : List Object) → other ≢ name → find other (with_bytes name bytes os) ≡ find other os
 find_others name other bytes [] ne = refl
 find_others name other bytes (o ∷ os) ne = elim (eqb_tells name o.name) [
-    inl h ↦ rw h.0 (grind (arith, nat_tests, h.1, ne))
-    | inr h ↦ rw (h.0, find_others name other bytes os ne) refl ]
+  | inl h ↦ rw h.0 (grind (arith, nat_tests, h.1, ne))
+  | inr h ↦ rw (h.0, find_others name other bytes os ne) refl
+]
 
 some_is : (x o : Object) → Some x ≡ Some o → x ≡ o
 some_is x o e = cc
@@ -182,32 +183,37 @@ some_is x o e = cc
 pub find_same : (name : ℕ) (bytes : List Byte) (os : List Object) (o : Object) → find name os ≡ Some o → find name (with_bytes name bytes os) ≡ Some (record o { bytes = bytes })
 find_same name bytes [] o e = absurd (cc)
 find_same name bytes (x ∷ os) o e = elim (eqb_tells name x.name) [
-    inl h ↦ let same : x ≡ o = some_is x o (rw h.0 at e) in rw (h.0, ← same, h.0) refl
-    | inr h ↦ rw (h.0, h.0) (find_same name bytes os o (rw h.0 at e)) ]
+  | inl h ↦ let same : x ≡ o = some_is x o (rw h.0 at e) in rw (h.0, ← same, h.0) refl
+  | inr h ↦ rw (h.0, h.0) (find_same name bytes os o (rw h.0 at e))
+]
 
 find_above : (name : ℕ) (os : List Object) (low n : ℕ) → Rising low os n → name < low → find name os ≡ None
 find_above name [] low n h lt = refl
 find_above name (o ∷ os) low n h lt = elim (eqb_tells name o.name) [
-    inl q ↦ absurd (omega (arith, q.1, lt, h.0))
-    | inr q ↦ rw q.0 (find_above name os (o.name + 1) n h.3 (omega (arith, lt, h.0))) ]
+  | inl q ↦ absurd (omega (arith, q.1, lt, h.0))
+  | inr q ↦ rw q.0 (find_above name os (o.name + 1) n h.3 (omega (arith, lt, h.0)))
+]
 
 find_removed : (name : ℕ) (os : List Object) (low n : ℕ) → Rising low os n → find name (without name os) ≡ None
 find_removed name [] low n h = refl
 find_removed name (o ∷ os) low n h = elim (eqb_tells name o.name) [
-    inl q ↦ rw q.0 (find_above name os (o.name + 1) n h.3 (omega (arith, q.1)))
-    | inr q ↦ rw (q.0, q.0) (find_removed name os (o.name + 1) n h.3) ]
+  | inl q ↦ rw q.0 (find_above name os (o.name + 1) n h.3 (omega (arith, q.1)))
+  | inr q ↦ rw (q.0, q.0) (find_removed name os (o.name + 1) n h.3)
+]
 
 find_kept : (name other : ℕ) (os : List Object) → other ≢ name → find other (without name os) ≡ find other os
 find_kept name other [] ne = refl
 find_kept name other (o ∷ os) ne = elim (eqb_tells name o.name) [
-    inl h ↦ rw h.0 (grind (arith, nat_tests, h.1, ne))
-    | inr h ↦ rw (h.0, find_kept name other os ne) refl ]
+  | inl h ↦ rw h.0 (grind (arith, nat_tests, h.1, ne))
+  | inr h ↦ rw (h.0, find_kept name other os ne) refl
+]
 
 pub released_is_dead : (m n : Picture) (name : ℕ) (offset : ℤ) → IsPicture m → release m (Obj name offset) ≡ Ok n → (find name n.objects ≡ None) × ((other : ℕ) → other ≢ name → find other n.objects ≡ find other m.objects)
 released_is_dead m n name offset k e =
-    let same = release_is m n name offset e in
-    (subst (λ x. find name x.objects ≡ None) same (find_removed name m.objects 0 m.next k.rising),
-    λ other ne. subst (λ x. find other x.objects ≡ find other m.objects) same (find_kept name other m.objects ne))
+    let same = release_is m n name offset e in (
+      subst (λ x. find name x.objects ≡ None) same (find_removed name m.objects 0 m.next k.rising),
+      λ other ne. subst (λ x. find other x.objects ≡ find other m.objects) same (find_kept name other m.objects ne),
+    )
 
 laid_is : (m n : Picture) (bytes : List Byte) (r : Result Place Trap) → laid m bytes r ≡ Ok n → (place : Place) × (r ≡ Ok place) × (lay m place bytes ≡ n)
 laid_is m n bytes (Ok place) e = (place, refl, cc)

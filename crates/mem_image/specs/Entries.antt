@@ -2,7 +2,7 @@
 use Rattle.std.specs.Prelude.{ℕ, ◌≡◌, List, [], ◌∷◌}
 use Rattle.std.specs.Map.{values_of}
 use Rattle.mem_image.specs.declared.object.Object.{Object}
-use Rattle.mem_image.specs.Picture.{Picture, IsPicture, live}
+use Rattle.mem_image.specs.Picture.{IsPicture, live}
 
 -- each object stands under its name
 abbrev pub Keyed : List (ℕ × Object) → Type 0

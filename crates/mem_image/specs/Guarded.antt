@@ -1,5 +1,5 @@
 -- What the tests' memory with a check of its own answers: one object may not be read, and the last one that was is marked.
-use Rattle.std.specs.Prelude.{ℕ, ◌≡◌, ◌≢◌, Option, Some, Result, Ok, Err}
+use Rattle.std.specs.Prelude.{ℕ, ◌≡◌, Option, Some, Result, Ok, Err}
 use Rattle.mem_image.specs.declared.object.Pointer.{Pointer}
 use Rattle.mem_image.specs.declared.object.Pointer.TheVariants.{Null, Obj, Fun}
 use Rattle.mem_image.specs.declared.fault.Fault.{Fault}

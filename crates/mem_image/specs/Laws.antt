@@ -1,5 +1,5 @@
 -- What the calls of a memory mean together.
-use Rattle.std.specs.Prelude.{ℕ, ◌+◌, ◌<◌, ◌≡◌, ◌≢◌, pos, ℤ, List, length, Result, Ok, Err, Option, None, Bool}
+use Rattle.std.specs.Prelude.{ℕ, ◌+◌, ◌<◌, ◌≡◌, ◌≢◌, pos, ℤ, List, length, Ok, None, Bool}
 use Rattle.std.specs.List.{All}
 use Rattle.pv_base.specs.declared.place.Site.{Site}
 use Rattle.mem_image.specs.declared.object.Pointer.{Pointer}

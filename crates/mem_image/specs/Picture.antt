@@ -1,6 +1,6 @@
 -- A memory as a value: the live objects by rising name, and the next name. What reads, writes, copies, fills, requests
 -- and releases give, with their traps in order.
-use Rattle.std.specs.Prelude.{ℕ, zero, suc, ◌+◌, ◌<◌, ◌≤◌, ◌^◌, ◌==◌, ◌||◌, ◌≡◌, nat_le, nat_lt, if◌then◌else◌, ℤ, pos, negsuc, ◌++◌, List, [], ◌∷◌, length, take, drop, slice_range, replicate, Option, None, Some, Result, Ok, Err, Bool, true, false}
+use Rattle.std.specs.Prelude.{ℕ, zero, suc, ◌+◌, ◌<◌, ◌≤◌, ◌^◌, ◌==◌, ◌||◌, nat_le, nat_lt, if◌then◌else◌, ℤ, pos, negsuc, ◌++◌, List, [], ◌∷◌, length, take, drop, slice_range, replicate, Option, None, Some, Result, Ok, Err, Bool, true, false}
 use Rattle.std.specs.List.{All}
 use Rattle.std.specs.Option.{option_map}
 use Rattle.pv_base.specs.declared.place.AllocSite.{AllocSite}

@@ -58,6 +58,19 @@ impl Image {
         }
     }
 
+    /// The memory without objects in which that name is the next.
+    #[cfg(test)]
+    pub(crate) fn from_name(alloc: Global, next: u32) -> Image
+        requires { next ≤ name_limit }
+    {
+        Image {
+            alloc,
+            objects: BTreeMap::new(alloc),
+            next,
+            live: 0,
+        }
+    }
+
     /// The name that the next object gets.
     pub fn next(&self) -> u32
         ensures next { result ≡ self.now.next }
@@ -242,7 +255,12 @@ impl Image {
     {
         match pointer {
             Pointer::Obj { name, offset: 0 } => match self.find(name) {
-                Some(Object { kind: Kind::Heap, .. }) => {
+                Some(
+                    Object {
+                        kind: Kind::Heap,
+                        ..
+                    },
+                ) => {
                     self.remove(name);
                     Ok(())
                 }
@@ -322,13 +340,7 @@ impl Mem for Image {
         }
     }
 
-    fn write_word(
-        &mut self,
-        _at: Site,
-        _slot: u32,
-        to: Pointer,
-        word: &Word,
-    ) -> Result<(), Fault> {
+    fn write_word(&mut self, _at: Site, _slot: u32, to: Pointer, word: &Word) -> Result<(), Fault> {
         match self.write(to, word) {
             Ok(()) => Ok(()),
             Err(trap) => Err(Fault::Trap(trap)),

@@ -2,13 +2,12 @@
 #![tactic(auto)]
 
 pub mod fault;
+#[cfg(test)]
+mod guarded;
 pub mod image;
 pub mod laws;
 pub mod memory;
 pub mod object;
-pub mod word;
-
-#[cfg(test)]
-mod guarded;
 #[cfg(test)]
 mod tests;
+pub mod word;

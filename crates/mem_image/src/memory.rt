@@ -39,7 +39,14 @@ pub trait Mem: Drop {
         ensures relation { relation self.old (WriteWord at slot to word.now) (replied done result) self.new };
 
     /// Copies bytes as they are. Where `overlap` is false, ranges that overlap and are not equal are a trap.
-    fn copy_range(&mut self, at: Site, to: Pointer, from: Pointer, len: u64, overlap: bool) -> Result<(), Fault>
+    fn copy_range(
+        &mut self,
+        at: Site,
+        to: Pointer,
+        from: Pointer,
+        len: u64,
+        overlap: bool,
+    ) -> Result<(), Fault>
         requires ready { ready self.old }
         ensures ready { ready self.new }
         ensures relation { relation self.old (CopyRange at to from len overlap) (replied done result) self.new };

@@ -13,15 +13,17 @@ fill-requires c = fits_in c.args.place.name c.self.inside.objects.entries c.in-S
 
 pub invariant_of-self : goal.invariant_of-self
 invariant_of-self c = elim c.match-get_mut.branch [
-    in-Some w ↦
+  | in-Some w ↦
       let fits = fits_in c.args.place.name c.self.inside.objects.entries w.in-Some.object.now _ c.self.invariant.keys w.in-Some.ensures.value (rw (← c.self.view_is) at c.requires) in
       rw (w.self-inside-is, (c.get_mut.follows.holds _).0, w.fill.ensures, ← spliced_replicate w.in-Some.object.now.bytes c.args.place.offset c.args.len (Num c.args.value))
       (kept_laid c.args.place (replicate c.args.len (Num c.args.value)) c.self.inside.objects.entries _ _ w.in-Some.object.now c.self.invariant w.in-Some.ensures.value (rw (length-replicate c.args.len (Num c.args.value)) fits) (All-replicate PartFits c.args.len (Num c.args.value) tt))
-    | in_default w ↦ rw (w.self-inside-is, c.get_mut.follows.holds-at-none) c.self.invariant ]
+  | in_default w ↦ rw (w.self-inside-is, c.get_mut.follows.holds-at-none) c.self.invariant
+]
 
 pub returns : goal.returns
 returns c = elim c.match-get_mut.branch [
-    in-Some w ↦
+  | in-Some w ↦
       rw (w.self-inside-is, (c.get_mut.follows.holds _).0, w.fill.ensures, ← c.self.view_is, ← spliced_replicate w.in-Some.object.now.bytes c.args.place.offset c.args.len (Num c.args.value))
       (ap (λ os. record { objects = os; next = c.self.inside.next }) (values_laid c.args.place (replicate c.args.len (Num c.args.value)) c.self.inside.objects.entries w.in-Some.object.now c.self.invariant.keys w.in-Some.ensures.value))
-    | in_default w ↦ rw (w.self-inside-is, c.get_mut.follows.holds-at-none, ← c.self.view_is) (ap (λ os. record { objects = os; next = c.self.inside.next }) (sym (with_bytes_none c.args.place.name _ _ (missed c.args.place.name c.self.inside.objects.entries c.self.invariant.keys w.in_default.ensures.value)))) ]
+  | in_default w ↦ rw (w.self-inside-is, c.get_mut.follows.holds-at-none, ← c.self.view_is) (ap (λ os. record { objects = os; next = c.self.inside.next }) (sym (with_bytes_none c.args.place.name _ _ (missed c.args.place.name c.self.inside.objects.entries c.self.invariant.keys w.in_default.ensures.value))))
+]

@@ -1,4 +1,4 @@
-use Rattle.std.proofs.Common.{ap, refl, arith, ◌≡◌, ◌++◌, List, [], ◌∷◌, ◌∙◌, ◌+◌}
+use Rattle.std.proofs.Common.{ap, refl, arith, ◌∙◌, ◌+◌}
 use Rattle.mem_image.specs.declared.object.Object.{Object}
 use Rattle.mem_image.proofs.Kept.{inserted_last, kept_pushed, values_pushed}
 use Rattle.mem_image.proofs.image.Image.push.Goals as goal
