@@ -1,5 +1,5 @@
 //! Lists, which contracts see as lists of their items.
-ghost use Rattle.std.specs.Prelude.{◌≡◌, ℕ, ◌+◌, ◌-◌, ◌<◌, ◌≤◌, ◌++◌, List as Sequence, [], ◌∷◌, Some, length, take, slice_get, slice_set, replicate, IfOk, OnOk, OnErr, MatchOption};
+ghost use Rattle.std.specs.Prelude.{◌≡◌, ℕ, ◌+◌, ◌-◌, ◌<◌, ◌≤◌, ◌++◌, List as Sequence, [], ◌∷◌, Some, length, take, drop, slice_get, slice_set, replicate, IfOk, OnOk, OnErr, MatchOption};
 
 use crate::want::Memory;
 use std::alloc::{AllocError, Global};
@@ -128,6 +128,24 @@ impl<T: Copy> List<T> {
     {
         let items = Vec::from_slice(alloc, items)?;
         Ok(List { items })
+    }
+
+    /// Puts the items in place of those from a place on.
+    pub fn write(&mut self, at: usize, items: &[T])
+        requires { at + length items.now ≤ length self.old }
+        ensures { self.new ≡ take at self.old ++ items.now ++ drop (at + length items.now) self.old }
+    {
+        self.items[at..at + items.len()].copy_from_slice(items);
+    }
+
+    /// Puts the item in place of so many from a place on.
+    pub fn fill(&mut self, at: usize, len: usize, item: T)
+        requires { at + len ≤ length self.old }
+        ensures { self.new ≡ take at self.old ++ replicate len item ++ drop (at + len) self.old }
+    {
+        for i in 0..len {
+            self.items[at + i] = item;
+        }
     }
 
     /// Appends all of them, or changes nothing.

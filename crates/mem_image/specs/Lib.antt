@@ -1,0 +1,6 @@
+pub mod Picture
+pub mod Calls
+pub mod Words
+pub mod Entries
+pub mod Laws
+pub mod Guarded

@@ -1,0 +1,37 @@
+//! Laws of the calls of a memory, each the contract of a function that does nothing.
+ghost use Rattle.mem_image.specs.Laws.{CallsKeepPictures, ReadsGiveAll, WritesReadBack, WritesLeaveOthers, MadeTakesNext, NullIsPastLimit, ReleasedIsDead};
+
+/// Each call keeps what holds of every memory.
+pub fn calls_keep_pictures()
+    ensures { CallsKeepPictures }
+{}
+
+/// A read gives as many bytes as it asks for.
+pub fn reads_give_all()
+    ensures { ReadsGiveAll }
+{}
+
+/// What was written is read there.
+pub fn writes_read_back()
+    ensures { WritesReadBack }
+{}
+
+/// A write leaves the objects of all other names.
+pub fn writes_leave_others()
+    ensures { WritesLeaveOthers }
+{}
+
+/// A new object takes the next name.
+pub fn made_takes_next()
+    ensures { MadeTakesNext }
+{}
+
+/// Null is answered only to a request at run time that is past the limit of live bytes.
+pub fn null_is_past_limit()
+    ensures { NullIsPastLimit }
+{}
+
+/// An object that was released is dead, and no other is.
+pub fn released_is_dead()
+    ensures { ReleasedIsDead }
+{}

@@ -1,0 +1,13 @@
+//! The memory of symbolic bytes: objects with names, pointers into them, and what every memory does at its calls.
+#![tactic(auto)]
+
+pub mod fault;
+#[cfg(test)]
+mod guarded;
+pub mod image;
+pub mod laws;
+pub mod memory;
+pub mod object;
+#[cfg(test)]
+mod tests;
+pub mod word;
