@@ -1,3 +1,7 @@
 pub mod Steps
 pub mod Spellings
 pub mod Pieces
+pub mod Runs
+pub mod Shapes
+pub mod Cuts
+pub mod Wholes

@@ -33,12 +33,14 @@ found_as None text f n is = absurd (cc)
 found_as (Some g) text f n is =
     let h = from_cond (form_len g text == 0) (form_len g text) (limit_of g (take (form_len g text) text)) (fault_of text) g f n is in
     let e : g ≡ f = h.2 in
-    let m : form_len g text ≡ n = h.3 in
-    (ap Some e, record {
-      len = rw (← e) m;
-      some = rw (← e) (eqb-false (form_len g text) 0 h.0);
-      limits = rw (← e, ← m) h.1;
-    })
+    let m : form_len g text ≡ n = h.3 in (
+      ap Some e,
+      record {
+        len = rw (← e) m;
+        some = rw (← e) (eqb-false (form_len g text) 0 h.0);
+        limits = rw (← e, ← m) h.1;
+      },
+    )
 
 pub found : (text : List ℕ) (f : Form) (n : ℕ) → piece_of text ≡ piece.Found f n → FoundAt text f n
 unfolding piece_of

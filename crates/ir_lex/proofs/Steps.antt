@@ -57,7 +57,7 @@ gap_step text front at n line all lt is pos so_far =
     let d : drop at text ≡ get_or text at 0 ∷ drop (suc at) text = drop-cons text at 0 lt in
     let one = gap_front (get_or text at 0) n at line (drop (suc at) text) (ap piece_of (sym d) ∙ is) pos in
     let two : lexed_from (drop at text) 0 at line ≡ lexed_from (drop (at + n) text) 0 (at + n) (line_after line (get_or text at 0)) =
-        ap (λ (t : List ℕ). lexed_from t 0 at line) d ∙ one ∙ ap (λ (t : List ℕ). lexed_from t 0 (at + n) (line_after line (get_or text at 0))) (ap (drop n) (sym d) ∙ later text at n) in
+    ap (λ (t : List ℕ). lexed_from t 0 at line) d ∙ one ∙ ap (λ (t : List ℕ). lexed_from t 0 (at + n) (line_after line (get_or text at 0))) (ap (drop n) (sym d) ∙ later text at n) in
     ap (onto front) (sym two) ∙ so_far
 
 pub token_step : (text : List ℕ) (front : List Token) (at n line : ℕ) (kind : TokenKind) (all : Lexed) → at < length text → piece_of (drop at text) ≡ piece.Found (form.Token kind) n → 0 < n
@@ -68,7 +68,7 @@ token_step text front at n line kind all lt is pos so_far =
     let t : Token = record { kind = kind; from = at; to = at + n; line = line } in
     let one = token_front (get_or text at 0) n at line (drop (suc at) text) kind (ap piece_of (sym d) ∙ is) pos in
     let two : lexed_from (drop at text) 0 at line ≡ with_token t (lexed_from (drop (at + n) text) 0 (at + n) line) =
-        ap (λ (x : List ℕ). lexed_from x 0 at line) d ∙ one ∙ ap (λ (x : List ℕ). with_token t (lexed_from x 0 (at + n) line)) (ap (drop n) (sym d) ∙ later text at n) in
+    ap (λ (x : List ℕ). lexed_from x 0 at line) d ∙ one ∙ ap (λ (x : List ℕ). with_token t (lexed_from x 0 (at + n) line)) (ap (drop n) (sym d) ∙ later text at n) in
     ap (λ (x : List Token). record { tokens = x; fault = (lexed_from (drop (at + n) text) 0 (at + n) line).fault }) (append_assoc front (t ∷ []) _) ∙ ap (onto front) (sym two) ∙ so_far
 
 pub bad_step : (text : List ℕ) (front : List Token) (at line : ℕ) (cause : Cause) (all : Lexed) → at < length text → piece_of (drop at text) ≡ piece.Bad cause

@@ -2,3 +2,4 @@ pub mod Classes
 pub mod Forms
 pub mod Spelling
 pub mod Lexing
+pub mod Cut

@@ -4,10 +4,10 @@
 
 pub mod class;
 pub mod forms;
+pub mod laws;
 pub mod piece;
 pub mod scan;
 pub mod spelled;
-pub mod token;
-
 #[cfg(test)]
 mod tests;
+pub mod token;

@@ -26,8 +26,7 @@ fn ends_inside(text: &[u8]) -> bool
         return all_string(behind(text));
     }
     if first == b'@' || first == b'%' {
-        return text.len() == 1
-            || (byte_at(text, 1) == b'"' && all_string(behind(behind(text))));
+        return text.len() == 1 || (byte_at(text, 1) == b'"' && all_string(behind(behind(text))));
     }
     (first == b'-' || first == b'.') && name_run(text) == text.len()
 }

@@ -70,7 +70,10 @@ fn cuts_tokens(rt: HostRuntime) -> Result<(), Fail> {
         ("a;b\nc", "W1:0-1 W2:4-5 "),
         ("\n\n=\n,", "P3:2-3 P4:4-5 "),
         ("()[]{}", "P1:0-1 P1:1-2 P1:2-3 P1:3-4 P1:4-5 P1:5-6 "),
-        ("<>!#$*|", "P1:0-1 P1:1-2 P1:2-3 P1:3-4 P1:4-5 P1:5-6 P1:6-7 "),
+        (
+            "<>!#$*|",
+            "P1:0-1 P1:1-2 P1:2-3 P1:3-4 P1:4-5 P1:5-6 P1:6-7 ",
+        ),
         ("......", "P1:0-3 P1:3-6 "),
         (" #dbg_value(", "P1:1-2 W1:2-11 P1:11-12 "),
         ("i032 i0", "W1:0-4 W1:5-7 "),
@@ -81,7 +84,11 @@ fn cuts_tokens(rt: HostRuntime) -> Result<(), Fail> {
         ("9223372036854775807:", "B1:0-20 "),
         ("%\"9223372036854775808\"", "L1:0-22 "),
     ] {
-        assert_eq!(rt; shown(&rt, rt.alloc(), text.as_bytes())?.as_str(), want, "{text}");
+        assert_eq!(rt;
+            shown(&rt, rt.alloc(), text.as_bytes())?.as_str(),
+            want,
+            "{text}"
+        );
     }
     Ok(())
 }
@@ -115,13 +122,20 @@ fn meets_faults(rt: HostRuntime) -> Result<(), Fail> {
         ("\"a\" :", "T1:0-3 token1"),
         ("; é\n\n^ @", "token3"),
         ("&", "token1"),
-        ("x\n340282366920938463463374607431768211456", "W1:0-1 number2"),
+        (
+            "x\n340282366920938463463374607431768211456",
+            "W1:0-1 number2",
+        ),
         ("-340282366920938463463374607431768211456", "number1"),
         ("\n@9223372036854775808", "number2"),
         ("%18446744073709551616", "number1"),
         ("9223372036854775808:", "number1"),
     ] {
-        assert_eq!(rt; shown(&rt, rt.alloc(), text.as_bytes())?.as_str(), want, "{text}");
+        assert_eq!(rt;
+            shown(&rt, rt.alloc(), text.as_bytes())?.as_str(),
+            want,
+            "{text}"
+        );
     }
     Ok(())
 }
@@ -163,7 +177,11 @@ fn limits_names(rt: HostRuntime) -> Result<(), Fail> {
         ("$\"", "a", 4097, "\"", "P1:0-1 T1:1-4100 "),
     ] {
         let text = built(rt.alloc(), front, part, count, back)?;
-        assert_eq!(rt; shown(&rt, rt.alloc(), text.as_slice())?.as_str(), want, "{front}");
+        assert_eq!(rt;
+            shown(&rt, rt.alloc(), text.as_slice())?.as_str(),
+            want,
+            "{front}"
+        );
     }
     Ok(())
 }
@@ -175,7 +193,12 @@ fn name(rt: &impl Abort, alloc: Global, text: &str) -> Result<String, Fail> {
     assert_eq!(rt; lexed.tokens.len(), 1);
     let token = *lexed.tokens.at(0);
     let mut out = String::new(alloc);
-    assert!(rt; matches!(token.kind, TokenKind::GlobalName | TokenKind::LocalName | TokenKind::Label));
+    assert!(rt;
+        matches!(
+            token.kind,
+            TokenKind::GlobalName | TokenKind::LocalName | TokenKind::Label
+        )
+    );
     match spelled(alloc, text.as_bytes(), token)? {
         Name::Numbered(n) => write!(out, "#{n}")?,
         Name::Named(bytes) => {
