@@ -20,7 +20,7 @@ use Rattle.ir_lex.specs.Classes.{is_blank, is_digit, is_letter, is_name_start, i
 use Rattle.ir_lex.specs.Forms.{quoted_len, name_len, label_len, signed_len, form_of, form_len}
 use Rattle.ir_lex.specs.Spelling.{limit_of}
 use Rattle.ir_lex.specs.Lexing.{fault_of, limited, piece_as, piece_of, with_token, faulty, line_after, lexed_from, lexed}
-use Rattle.ir_lex.specs.Cut.{Each, IsRun, IsQuoted, IsName, IsSigned, IsLabel, IsInteger, Positive, Negative, IsPunct, Mark, Points, IsGap, Blank, Comment, IsForm, Part, joined, IsLongest, AreLongest, newlines, line_behind, token_at, tokens_at, Cut, AreGaps, NoGap, OneMore, Stands, InOrder}
+use Rattle.ir_lex.specs.Cut.{Each, IsRun, IsQuoted, IsName, IsSigned, IsLabel, IsInteger, Positive, Negative, IsPunct, Mark, Points, IsGap, Blank, Comment, IsForm, Part, joined, IsLongest, AreLongest, newlines, token_at, tokens_at, Cut, AreGaps, NoGap, OneMore, Stands, InOrder}
 use Rattle.ir_lex.proofs.Runs.{each_most, each_more, run_take, run_most, run_each, run_first, run_some}
 use Rattle.ir_lex.proofs.Steps.{gap_front, token_front, bad_front}
 use Rattle.ir_lex.proofs.Pieces.{FoundAt, found_as}

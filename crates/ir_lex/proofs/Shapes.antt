@@ -124,7 +124,7 @@ name_some t (Plain run) = run_some is_name_start is_name_byte t run
 name_some t (Digits run) = run_some is_digit is_digit t run
 name_some t (Quoted q) = rw q.is (omega arith)
 
-same_byte : (b : ℕ) → is_digit b ≡ true → is_digit b ≡ true
+pub same_byte : (b : ℕ) → is_digit b ≡ true → is_digit b ≡ true
 same_byte b is = is
 
 not_start_34 : is_name_start 34 ≡ false

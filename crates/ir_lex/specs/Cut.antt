@@ -1,5 +1,5 @@
 -- The ways to cut a text into pieces, by their forms alone.
-use Rattle.std.specs.Prelude.{◌≡◌, ℕ, ◌+◌, ◌<◌, ◌≤◌, ◌↔◌, ◌⊎◌, Bool, true, ◌==◌, List, [], ◌∷◌, ◌++◌, length, Option, Some, None, slice_range, count_by, IsNone}
+use Rattle.std.specs.Prelude.{◌≡◌, ℕ, ◌+◌, ◌<◌, ◌≤◌, ◌↔◌, ◌⊎◌, Bool, true, ◌==◌, List, [], ◌∷◌, ◌++◌, length, Option, Some, None, slice_range, take, count_by, MatchOption}
 use Rattle.ir_lex.specs.declared.token.TokenKind.{TokenKind}
 use Rattle.ir_lex.specs.declared.token.TokenKind.TheVariants as kind
 use Rattle.ir_lex.specs.declared.token.Form.{Form}
@@ -94,11 +94,6 @@ AreLongest (p ∷ ps) rest = IsLongest p (joined ps rest) × AreLongest ps rest
 abbrev pub newlines : List ℕ → ℕ
 newlines bytes = count_by (λ b. b == 10) bytes
 
--- the line behind a piece; no token has a newline
-abbrev pub line_behind : Form → ℕ → List ℕ → ℕ
-line_behind form.Gap line bytes = line + newlines bytes
-line_behind (form.Token k) line bytes = line
-
 -- a token of a piece, and none of a gap
 abbrev pub token_at : Form → ℕ → ℕ → ℕ → List Token → List Token
 token_at form.Gap at to line ts = ts
@@ -107,7 +102,7 @@ token_at (form.Token k) at to line ts = record { kind = k; from = at; to = to; l
 -- the tokens among pieces that stand from a place and a line on
 abbrev pub tokens_at : ℕ → ℕ → List Part → List Token
 tokens_at at line [] = []
-tokens_at at line (p ∷ ps) = token_at p.form at (at + length p.bytes) line (tokens_at (at + length p.bytes) (line_behind p.form line p.bytes) ps)
+tokens_at at line (p ∷ ps) = token_at p.form at (at + length p.bytes) line (tokens_at (at + length p.bytes) (line + newlines p.bytes) ps)
 
 -- a text cut into pieces up to a rest, with these tokens among them
 pub record Cut (text : List ℕ) (tokens : List Token) (rest : List ℕ) : Type 0 where
@@ -121,13 +116,14 @@ pub data AreGaps : List ℕ → Type 0 where
   NoGap : AreGaps []
   OneMore : (gaps gap : List ℕ) → AreGaps gaps → IsGap gap → AreGaps (gaps ++ gap)
 
--- the token is that part of the text, behind blanks and comments
+-- the token is that part of the text, behind blanks and comments; its line is one more than the newlines before it
 pub record Stands (text : List ℕ) (at : ℕ) (t : Token) : Type 0 where
   pub behind : at ≤ t.from
   pub some : t.from < t.to
   pub within : t.to ≤ length text
   pub between : AreGaps (slice_range text at t.from)
   pub is : IsForm (form.Token t.kind) (slice_range text t.from t.to)
+  pub line : t.line ≡ 1 + newlines (take t.from text)
 
 -- the tokens follow one another
 abbrev pub InOrder : List ℕ → ℕ → List Token → Type 0
@@ -138,9 +134,9 @@ InOrder text at (t ∷ ts) = Stands text at t × InOrder text t.to ts
 abbrev pub TokensInOrder : Type 0
 TokensInOrder = (text : List ℕ) → InOrder text 0 (lexed text).tokens
 
--- The tokens before the first fault are those of a text cut into longest pieces; without a fault nothing is left over.
+-- The tokens before the first fault are those of a text cut into longest pieces. Without a fault nothing is left over, and a fault's line is that of the place where the pieces end.
 abbrev pub TokensAreCut : Type 0
-TokensAreCut = (text : List ℕ) → (rest : List ℕ) × Cut text (lexed text).tokens rest × ((lexed text).fault ≡ None → rest ≡ [])
+TokensAreCut = (text : List ℕ) → (rest : List ℕ) × (c : Cut text (lexed text).tokens rest) × MatchOption (lexed text).fault (rest ≡ []) (λ e. e.line ≡ 1 + newlines (joined c.parts []))
 
 -- A whole text is cut into longest pieces in one way alone, and its tokens are then the answer.
 abbrev pub OneCut : Type 0

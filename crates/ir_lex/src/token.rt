@@ -4,7 +4,7 @@ use pv_base::bytes::Bytes;
 use pv_base::list::List;
 use thiserror::Error;
 
-/// The kind of a token. The forms are those of the LLVM Language Reference, but for the numbers' exponents and types.
+/// The kind of a token. The forms follow the LLVM Language Reference; a number with a point is no token.
 #[derive(Clone, Copy, Debug, PartialEq, Eq)]
 pub enum TokenKind {
     /// `@` and a name.
