@@ -1,30 +1,21 @@
 -- A text is cut into longest pieces in one way.
-use Rattle.std.proofs.Common.{◌≡◌, ℕ, zero, suc, ◌+◌, ◌-◌, ◌<◌, ◌≤◌, ◌⊎◌, ◌↔◌, inl, inr, Bool, true, false, cond, List, [], ◌∷◌, ◌++◌, length, take, drop, get_or, Option, Some, None, refl, sym, ap, subst, ◌∙◌, arith, append_assoc, length-append, take-append-drop}
-use Rattle.std.specs.Prelude.{◌&&◌, ◌||◌, ◌==◌, slice_range}
-use Rattle.std.specs.List.{prefix_len, count_by}
-use Rattle.std.proofs.lemmas.Bool.{eqb-true, eqb-false, eq-eqb, ne_eqb, and_parts, or_cases, cases_Bool}
-use Rattle.std.proofs.lemmas.Bool.Decides.{nat_tests}
+use Rattle.std.proofs.Common.{◌≡◌, ℕ, ◌+◌, ◌<◌, ◌≤◌, ◌⊎◌, inl, inr, Bool, true, false, cond, List, [], ◌∷◌, ◌++◌, length, take, drop, get_or, Option, Some, None, refl, sym, ap, subst, ◌∙◌, arith, length-append, take-append-drop}
+use Rattle.std.specs.Prelude.{◌||◌, ◌==◌}
+use Rattle.std.proofs.lemmas.Bool.{eqb-true, eqb-false, ne_eqb}
 use Rattle.std.proofs.lemmas.List.Sums.{prefix_len-le-length}
-use Rattle.std.proofs.lemmas.List.{append-nil, take_at, drop_at, length-take-le, length-drop}
-use Rattle.ir_lex.specs.declared.token.Token.{Token}
-use Rattle.ir_lex.specs.declared.token.TokenKind.{TokenKind}
+use Rattle.std.proofs.lemmas.List.{take_at, length-take-le}
 use Rattle.ir_lex.specs.declared.token.TokenKind.TheVariants as kind
-use Rattle.ir_lex.specs.declared.token.Cause.{Cause}
 use Rattle.ir_lex.specs.declared.token.Form.{Form}
 use Rattle.ir_lex.specs.declared.token.Form.TheVariants as form
-use Rattle.ir_lex.specs.declared.token.Piece.{Piece}
 use Rattle.ir_lex.specs.declared.token.Piece.TheVariants as piece
-use Rattle.ir_lex.specs.declared.token.Lexed.{Lexed}
-use Rattle.ir_lex.specs.declared.token.ReadError.{ReadError}
-use Rattle.ir_lex.specs.Classes.{is_blank, is_digit, is_letter, is_name_start, is_name_byte, is_word_start, is_word_byte, is_mark, in_line, in_string}
+use Rattle.ir_lex.specs.Classes.{is_blank, is_digit, is_letter, is_name_start, is_name_byte, is_word_start, is_word_byte, is_mark}
 use Rattle.ir_lex.specs.Forms.{quoted_len, name_len, label_len, signed_len, form_of, form_len}
 use Rattle.ir_lex.specs.Spelling.{limit_of}
-use Rattle.ir_lex.specs.Lexing.{fault_of, limited, piece_as, piece_of, with_token, faulty, line_after, lexed_from, lexed}
-use Rattle.ir_lex.specs.Cut.{Each, IsRun, IsQuoted, IsName, IsSigned, IsLabel, IsInteger, Positive, Negative, IsPunct, Mark, Points, IsGap, Blank, Comment, IsForm, Part, joined, IsLongest, AreLongest, newlines, token_at, tokens_at, Cut, AreGaps, NoGap, OneMore, Stands, InOrder}
+use Rattle.ir_lex.specs.Lexing.{piece_as, piece_of}
+use Rattle.ir_lex.specs.Cut.{IsRun, IsQuoted, IsSigned, IsLabel, IsInteger, Positive, Negative, IsPunct, Mark, Points, IsGap, Blank, Comment, IsForm, Part, IsLongest}
 use Rattle.ir_lex.proofs.Runs.{each_most, each_more, run_take, run_most, run_each, run_first, run_some}
-use Rattle.ir_lex.proofs.Steps.{gap_front, token_front, bad_front}
 use Rattle.ir_lex.proofs.Pieces.{FoundAt, found_as}
-use Rattle.ir_lex.proofs.Shapes.{Shape, digit_name, start_name, word_start_byte, word_start_name, word_byte_name, quoted_exact, quoted_take, name_take, plain_len, digits_len, quote_len, label_take, label_exact, label_some, signed_take, signed_most, integer_take, integer_most, integer_some, punct_take, punct_most, gap_take, gap_most, gap_some, mark_form, blank_form, digit_form, word_form, other_forms}
+use Rattle.ir_lex.proofs.Shapes.{Shape, digit_name, start_name, word_start_byte, word_start_name, word_byte_name, quoted_exact, quoted_take, plain_len, digits_len, quote_len, label_take, label_exact, label_some, signed_take, signed_most, integer_take, integer_most, integer_some, punct_take, punct_most, gap_take, gap_most, gap_some, mark_form, blank_form, digit_form, word_form, other_forms}
 
 or_left : (x y : Bool) → (x || y) ≡ true → y ≡ false → x ≡ true
 or_left true y is off = refl

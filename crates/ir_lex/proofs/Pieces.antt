@@ -1,16 +1,13 @@
 -- What a piece that was found is.
-use Rattle.std.proofs.Common.{◌≡◌, ℕ, zero, suc, ◌+◌, ◌-◌, ◌<◌, ◌≤◌, Bool, true, false, cond, List, [], ◌∷◌, ◌++◌, length, take, drop, get_or, Option, Some, None, refl, sym, ap, ◌∙◌, arith}
-use Rattle.std.specs.Prelude.{slice_range, if◌then◌else◌, ◌==◌}
+use Rattle.std.proofs.Common.{◌≡◌, ℕ, ◌+◌, ◌-◌, ◌<◌, ◌≤◌, Bool, true, false, cond, List, length, take, drop, Option, Some, None, refl, ap, arith}
+use Rattle.std.specs.Prelude.{◌==◌}
 use Rattle.std.proofs.lemmas.Bool.{eqb-false}
-use Rattle.ir_lex.specs.declared.token.Token.{Token}
 use Rattle.ir_lex.specs.declared.token.TokenKind.{TokenKind}
-use Rattle.ir_lex.specs.declared.token.TokenKind.TheVariants as kind
 use Rattle.ir_lex.specs.declared.token.Cause.{Cause}
 use Rattle.ir_lex.specs.declared.token.Form.{Form}
 use Rattle.ir_lex.specs.declared.token.Form.TheVariants as form
-use Rattle.ir_lex.specs.declared.token.Piece.{Piece}
 use Rattle.ir_lex.specs.declared.token.Piece.TheVariants as piece
-use Rattle.ir_lex.specs.Forms.{form_of, form_len, label_len}
+use Rattle.ir_lex.specs.Forms.{form_len}
 use Rattle.ir_lex.specs.Spelling.{limit_of}
 use Rattle.ir_lex.specs.Lexing.{fault_of, limited, piece_as, piece_of, TokenIn}
 

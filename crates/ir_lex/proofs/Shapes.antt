@@ -1,9 +1,9 @@
 -- The longest piece of each form is of that form, and no piece of the form is longer.
-use Rattle.std.proofs.Common.{◌≡◌, ℕ, zero, suc, ◌+◌, ◌-◌, ◌<◌, ◌≤◌, ◌⊎◌, inl, inr, Bool, true, false, cond, List, [], ◌∷◌, ◌++◌, length, take, drop, get_or, Option, Some, None, refl, sym, ap, subst, ◌∙◌, arith, append_assoc, length-append}
+use Rattle.std.proofs.Common.{◌≡◌, ℕ, suc, ◌+◌, ◌<◌, ◌≤◌, inl, inr, Bool, true, false, cond, List, [], ◌∷◌, ◌++◌, length, take, get_or, Some, refl, sym, ap, subst, ◌∙◌, arith, append_assoc, length-append}
 use Rattle.std.specs.Prelude.{◌&&◌, ◌||◌, ◌==◌}
 use Rattle.std.specs.List.{prefix_len}
 use Rattle.std.proofs.Math.Seq.{take-suc}
-use Rattle.std.proofs.lemmas.Bool.{eqb-true, eqb-false, eq-eqb, ne_eqb, and_parts, or_cases, cases_lt}
+use Rattle.std.proofs.lemmas.Bool.{eqb-true, eqb-false, ne_eqb, or_cases, cases_lt}
 use Rattle.std.proofs.lemmas.Bool.Decides.{nat_tests}
 use Rattle.std.proofs.lemmas.List.{get_or_past}
 use Rattle.std.proofs.lemmas.List.Sums.{prefix_len-le-length}
@@ -11,9 +11,9 @@ use Rattle.ir_lex.specs.declared.token.TokenKind.TheVariants as kind
 use Rattle.ir_lex.specs.declared.token.Form.{Form}
 use Rattle.ir_lex.specs.declared.token.Form.TheVariants as form
 use Rattle.ir_lex.specs.Classes.{is_blank, is_digit, is_letter, is_name_start, is_name_byte, is_word_start, is_word_byte, is_mark, in_line, in_string}
-use Rattle.ir_lex.specs.Forms.{quoted_len, name_len, label_len, signed_len, integer_len, punct_len, gap_len, form_of, form_len}
+use Rattle.ir_lex.specs.Forms.{quoted_len, name_len, label_len, signed_len, integer_len, punct_len, gap_len, form_of}
 use Rattle.ir_lex.specs.Cut.{Each, IsRun, IsQuoted, IsName, Plain, Digits, Quoted, IsSigned, IsLabel, IsInteger, Positive, Negative, IsPunct, Mark, Points, IsGap, Blank, Comment, IsForm}
-use Rattle.ir_lex.proofs.Runs.{each_take, each_most, each_all, each_more, run_take, run_most, run_each, run_first, run_some}
+use Rattle.ir_lex.proofs.Runs.{each_take, each_most, each_all, run_take, run_most, run_each, run_first, run_some}
 
 get_or_at : (xs : List ℕ) (y : ℕ) (ys : List ℕ) → get_or (xs ++ y ∷ ys) (length xs) 0 ≡ y
 get_or_at [] y ys = refl

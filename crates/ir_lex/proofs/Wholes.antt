@@ -1,8 +1,6 @@
 -- A whole text: its pieces, its tokens, and where they stand.
-use Rattle.std.proofs.Common.{◌≡◌, ℕ, zero, suc, ◌+◌, ◌-◌, ◌<◌, ◌≤◌, ◌↔◌, Bool, true, false, not, cond, List, [], ◌∷◌, ◌++◌, length, take, drop, get_or, Option, Some, None, refl, sym, ap, subst, ◌∙◌, arith, append_assoc, length-append, take-append-drop}
-use Rattle.std.specs.Prelude.{◌==◌, slice_range, MatchOption}
-use Rattle.std.proofs.lemmas.Bool.{not-true}
-use Rattle.std.proofs.lemmas.Bool.Decides.{nat_tests}
+use Rattle.std.proofs.Common.{◌≡◌, ℕ, zero, suc, ◌+◌, ◌-◌, ◌≤◌, ◌↔◌, List, [], ◌∷◌, ◌++◌, length, take, drop, Option, None, refl, sym, ap, subst, ◌∙◌, arith, append_assoc, length-append, take-append-drop}
+use Rattle.std.specs.Prelude.{slice_range, MatchOption}
 use Rattle.std.proofs.lemmas.List.{append-nil, take_at, drop_at, length-take-le, length-drop}
 use Rattle.ir_lex.specs.declared.token.Token.{Token}
 use Rattle.ir_lex.specs.declared.token.TokenKind.{TokenKind}
@@ -12,9 +10,8 @@ use Rattle.ir_lex.specs.declared.token.Piece.{Piece}
 use Rattle.ir_lex.specs.declared.token.Piece.TheVariants as piece
 use Rattle.ir_lex.specs.declared.token.Lexed.{Lexed}
 use Rattle.ir_lex.specs.declared.token.ReadError.{ReadError}
-use Rattle.ir_lex.specs.Classes.{in_line}
 use Rattle.ir_lex.specs.Lexing.{piece_of, with_token, line_after, lexed_from, lexed}
-use Rattle.ir_lex.specs.Cut.{Each, IsGap, Blank, Comment, IsForm, Part, joined, IsLongest, AreLongest, newlines, token_at, tokens_at, Cut, AreGaps, NoGap, OneMore, Stands, InOrder}
+use Rattle.ir_lex.specs.Cut.{IsGap, IsForm, Part, joined, AreLongest, newlines, token_at, tokens_at, Cut, AreGaps, NoGap, OneMore, Stands, InOrder}
 use Rattle.ir_lex.proofs.Steps.{gap_front, token_front, bad_front}
 use Rattle.ir_lex.proofs.Newlines.{newlines_join, gap_line, token_line}
 use Rattle.ir_lex.proofs.Cuts.{shape_some, longest_found, found_longest}

@@ -1,6 +1,5 @@
 -- The ways to cut a text into pieces, by their forms alone.
-use Rattle.std.specs.Prelude.{◌≡◌, ℕ, ◌+◌, ◌<◌, ◌≤◌, ◌↔◌, ◌⊎◌, Bool, true, ◌==◌, List, [], ◌∷◌, ◌++◌, length, Option, Some, None, slice_range, take, count_by, MatchOption}
-use Rattle.ir_lex.specs.declared.token.TokenKind.{TokenKind}
+use Rattle.std.specs.Prelude.{◌≡◌, ℕ, ◌+◌, ◌<◌, ◌≤◌, ◌↔◌, Bool, true, ◌==◌, List, [], ◌∷◌, ◌++◌, length, None, slice_range, take, count_by, MatchOption}
 use Rattle.ir_lex.specs.declared.token.TokenKind.TheVariants as kind
 use Rattle.ir_lex.specs.declared.token.Form.{Form}
 use Rattle.ir_lex.specs.declared.token.Form.TheVariants as form

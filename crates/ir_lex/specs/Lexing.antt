@@ -1,5 +1,5 @@
 -- The tokens of a text, and the first place where none can be read.
-use Rattle.std.specs.Prelude.{◌≡◌, ℕ, zero, suc, ◌+◌, ◌-◌, ◌<◌, ◌≤◌, Bool, true, false, ◌&&◌, ◌||◌, ◌==◌, if◌then◌else◌, List, [], ◌∷◌, length, drop, take, Option, Some, None, slice_index, slice_range}
+use Rattle.std.specs.Prelude.{◌≡◌, ℕ, zero, suc, ◌+◌, ◌-◌, ◌<◌, ◌≤◌, Bool, ◌&&◌, ◌||◌, ◌==◌, if◌then◌else◌, List, [], ◌∷◌, length, drop, take, Option, Some, None, slice_index, slice_range}
 use Rattle.std.specs.List.{prefix_len}
 use Rattle.ir_lex.specs.declared.token.TokenKind.TheVariants as kind
 use Rattle.ir_lex.specs.declared.token.Form.{Form}
@@ -9,7 +9,6 @@ use Rattle.ir_lex.specs.declared.token.Piece.TheVariants as piece
 use Rattle.ir_lex.specs.declared.token.Cause.{Cause}
 use Rattle.ir_lex.specs.declared.token.Cause.TheVariants as cause
 use Rattle.ir_lex.specs.declared.token.Token.{Token}
-use Rattle.ir_lex.specs.declared.token.ReadError.{ReadError}
 use Rattle.ir_lex.specs.declared.token.Lexed.{Lexed}
 use Rattle.ir_lex.specs.Classes.{is_name_byte, in_string}
 use Rattle.ir_lex.specs.Forms.{form_of, form_len, label_len}

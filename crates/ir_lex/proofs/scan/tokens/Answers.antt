@@ -1,11 +1,10 @@
-use Rattle.std.proofs.Common.{◌≡◌, ◌+◌, ◌<◌, ◌≤◌, List, ℕ, [], ◌∷◌, ◌++◌, get_or, drop, length, arith, sym, ap, ◌∙◌, append_assoc, Fits, rules}
-use Rattle.std.proofs.lemmas.List.{length-drop}
+use Rattle.std.proofs.Common.{◌+◌, ◌<◌, ◌≤◌, get_or, length, arith, sym, ap, ◌∙◌}
 use Rattle.std.proofs.lemmas.List.Elements.{All-push}
 use Rattle.ir_lex.specs.declared.token.Form.{Form}
 use Rattle.ir_lex.specs.declared.token.Piece.TheVariants as piece
 use Rattle.ir_lex.specs.Classes.{is_name_byte}
-use Rattle.ir_lex.specs.Lexing.{lexed, lexed_from, line_after, piece_of, TokenIn}
-use Rattle.ir_lex.proofs.Steps.{onto, starts, gap_step, token_step, bad_step, end_step, line_after-le, run_stays}
+use Rattle.ir_lex.specs.Lexing.{piece_of, TokenIn}
+use Rattle.ir_lex.proofs.Steps.{starts, gap_step, token_step, bad_step, end_step, line_after-le, run_stays}
 use Rattle.ir_lex.proofs.Pieces.{limits_held}
 use Rattle.ir_lex.proofs.scan.tokens.Goals as goal
 

@@ -1,5 +1,5 @@
-use Rattle.std.proofs.Common.{◌≡◌, ◌+◌, ◌∷◌, drop, length, arith, ap, ◌∙◌}
-use Rattle.ir_lex.specs.Spelling.{decoded_from, written, meant}
+use Rattle.std.proofs.Common.{length, arith, ap, ◌∙◌}
+use Rattle.ir_lex.specs.Spelling.{written}
 use Rattle.ir_lex.proofs.Spellings.{decoded_step, decoded_end}
 use Rattle.ir_lex.proofs.spelled.decoded_len.Goals as goal
 

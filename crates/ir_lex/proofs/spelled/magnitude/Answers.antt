@@ -1,5 +1,4 @@
-use Rattle.std.proofs.Common.{◌≡◌, ◌≤◌, ◌+◌, ◌-◌, ◌*◌, ◌^◌, get_or, length, drop, arith, sym, ◌∙◌}
-use Rattle.ir_lex.specs.Spelling.{number_after}
+use Rattle.std.proofs.Common.{◌≤◌, ◌+◌, ◌-◌, ◌*◌, ◌^◌, get_or, drop, arith, sym, ◌∙◌}
 use Rattle.ir_lex.proofs.Spellings.{number_grows, number_step, number_end}
 use Rattle.ir_lex.proofs.spelled.magnitude.Goals as goal
 
