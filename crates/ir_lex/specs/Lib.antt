@@ -1,0 +1,5 @@
+pub mod Classes
+pub mod Forms
+pub mod Spelling
+pub mod Lexing
+pub mod Cut

@@ -1,0 +1,19 @@
+//! Laws of the definitions that the code's contracts cite.
+
+ghost use Rattle.ir_lex.specs.Cut.{TokensInOrder, TokensAreCut, OneCut};
+
+/// The tokens stand in the text in order, each of its kind's form, with only blanks and comments between them.
+pub fn law_tokens_in_order()
+    ensures { TokensInOrder }
+{}
+
+/// The tokens before the first fault are those of a text cut into longest pieces, and without a fault nothing is left
+/// over.
+pub fn law_tokens_are_cut()
+    ensures { TokensAreCut }
+{}
+
+/// A whole text is cut into longest pieces in one way alone.
+pub fn law_one_cut()
+    ensures { OneCut }
+{}
