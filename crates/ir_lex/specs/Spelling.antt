@@ -6,8 +6,8 @@ use Rattle.ir_lex.specs.declared.token.Form.{Form}
 use Rattle.ir_lex.specs.declared.token.Form.TheVariants as form
 use Rattle.ir_lex.specs.declared.token.Cause.{Cause}
 use Rattle.ir_lex.specs.declared.token.Cause.TheVariants as cause
-use Rattle.ir_lex.specs.declared.token.Name.{Name}
-use Rattle.ir_lex.specs.declared.token.Name.TheVariants.{Named, Numbered}
+use Rattle.pv_base.specs.declared.name.Name.{Name}
+use Rattle.pv_base.specs.declared.name.Name.TheVariants.{Named, Numbered}
 use Rattle.ir_lex.specs.declared.token.Integer.{Integer}
 use Rattle.ir_lex.specs.Classes.{is_digit, is_hex, hex_value}
 

@@ -8,8 +8,9 @@ ghost use Rattle.ir_lex.specs.Lexing.{TokenIn};
 
 use crate::class;
 use crate::forms::{behind, byte_at, from, front};
-use crate::token::{Cause, Form, Integer, Name, Token, TokenKind};
+use crate::token::{Cause, Form, Integer, Token, TokenKind};
 use pv_base::bytes::Bytes;
+use pv_base::name::Name;
 use pv_base::want::Memory;
 use std::alloc::Global;
 

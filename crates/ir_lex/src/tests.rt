@@ -1,8 +1,9 @@
 //! Texts and their tokens, faults and spellings.
 use crate::scan::tokens;
 use crate::spelled::{integer, spelled, string};
-use crate::token::{Cause, Name, TokenKind};
+use crate::token::{Cause, TokenKind};
 use pv_base::bytes::Bytes;
+use pv_base::name::Name;
 use pv_base::want::Memory;
 use std::alloc::Global;
 use std::fmt::Write;

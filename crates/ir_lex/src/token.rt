@@ -77,13 +77,6 @@ pub struct Lexed {
     pub fault: Option<ReadError>,
 }
 
-/// What a name spells: bytes, or the number of a value without a name.
-#[derive(Drop)]
-pub enum Name {
-    Named(Bytes),
-    Numbered(u64),
-}
-
 /// What an integer spells. Zero may have either sign.
 #[derive(Clone, Copy, Debug)]
 pub struct Integer {
