@@ -4,6 +4,7 @@ use Rattle.std.specs.Prelude.{slice_range, MatchOption}
 use Rattle.std.proofs.lemmas.List.{append-nil, take_at, drop_at, length-take-le, length-drop}
 use Rattle.ir_lex.specs.declared.token.Token.{Token}
 use Rattle.ir_lex.specs.declared.token.TokenKind.{TokenKind}
+use Rattle.ir_lex.specs.declared.token.Cause.{Cause}
 use Rattle.ir_lex.specs.declared.token.Form.{Form}
 use Rattle.ir_lex.specs.declared.token.Form.TheVariants as form
 use Rattle.ir_lex.specs.declared.token.Piece.{Piece}
@@ -11,7 +12,7 @@ use Rattle.ir_lex.specs.declared.token.Piece.TheVariants as piece
 use Rattle.ir_lex.specs.declared.token.Lexed.{Lexed}
 use Rattle.ir_lex.specs.declared.token.ReadError.{ReadError}
 use Rattle.ir_lex.specs.Lexing.{piece_of, with_token, line_after, lexed_from, lexed}
-use Rattle.ir_lex.specs.Cut.{IsGap, IsForm, Part, joined, AreLongest, newlines, token_at, tokens_at, Cut, AreGaps, NoGap, OneMore, Stands, InOrder}
+use Rattle.ir_lex.specs.Cut.{IsGap, IsForm, Part, joined, AreLongest, IsStuck, newlines, token_at, tokens_at, Cut, AreGaps, NoGap, OneMore, Stands, InOrder}
 use Rattle.ir_lex.proofs.Steps.{gap_front, token_front, bad_front}
 use Rattle.ir_lex.proofs.Newlines.{newlines_join, gap_line, token_line}
 use Rattle.ir_lex.proofs.Cuts.{shape_some, longest_found, found_longest}
@@ -24,7 +25,7 @@ pub record CutFrom (text : List ℕ) (at line : ℕ) : Type 0 where
   pub whole : joined parts rest ≡ text
   pub longest : AreLongest parts rest
   pub among : tokens_at at line parts ≡ (lexed_from text 0 at line).tokens
-  pub over : MatchOption (lexed_from text 0 at line).fault (rest ≡ []) (λ e. e.line ≡ line + newlines (joined parts []))
+  pub over : MatchOption (lexed_from text 0 at line).fault (rest ≡ []) (λ e. (e.line ≡ line + newlines (joined parts [])) × IsStuck rest)
 
 cut_end : (at line : ℕ) → CutFrom [] at line
 unfolding lexed_from
@@ -46,8 +47,14 @@ cut_part f b xs n at line is tokens fault go =
       whole = ap (λ (x : List ℕ). take (suc n) text ++ x) go.whole ∙ take-append-drop (suc n) text;
       longest = (rw go.whole found.longest, go.longest);
       among = ap (λ (k : ℕ). token_at f at (at + k) line (tokens_at (at + k) (line + newlines (take (suc n) text)) go.parts)) size ∙ ap (token_at f at (at + suc n) line) go.among ∙ sym tokens;
-      over = subst (λ (x : Option ReadError). MatchOption x (go.rest ≡ []) (λ e. e.line ≡ line + newlines (take (suc n) text ++ joined go.parts []))) (sym fault) (rw lines go.over);
+      over = subst (λ (x : Option ReadError). MatchOption x (go.rest ≡ []) (λ e. (e.line ≡ line + newlines (take (suc n) text ++ joined go.parts [])) × IsStuck go.rest)) (sym fault) (rw lines go.over);
     }
+
+bad_found : {p : Piece} {why : Cause} {f : Form} {n : ℕ} → p ≡ piece.Bad why → p ≡ piece.Found f n → ⊥
+bad_found bad found = cc
+
+stuck : (b : ℕ) (xs : List ℕ) (why : Cause) → piece_of (b ∷ xs) ≡ piece.Bad why → IsStuck (b ∷ xs)
+stuck b xs why bad p after longest whole = bad_found bad (ap piece_of (sym whole) ∙ longest_found p after longest)
 
 cut_piece : (fuel b : ℕ) (xs : List ℕ) (at line : ℕ) → length xs ≤ fuel → ((text : List ℕ) (at line : ℕ) → length text ≤ fuel → CutFrom text at line) → (p : Piece) → piece_of (b ∷ xs) ≡ p → CutFrom (b ∷ xs) at line
 cut_piece fuel b xs at line le go (piece.Bad why) is =
@@ -59,7 +66,7 @@ cut_piece fuel b xs at line le go (piece.Bad why) is =
       whole = refl;
       longest = tt;
       among = sym (ap (λ (x : Lexed). x.tokens) e);
-      over = subst (λ (x : Option ReadError). MatchOption x (b ∷ xs ≡ []) (λ e. e.line ≡ line + newlines [])) (sym (ap (λ (x : Lexed). x.fault) e)) lines;
+      over = subst (λ (x : Option ReadError). MatchOption x (b ∷ xs ≡ []) (λ e. (e.line ≡ line + newlines []) × IsStuck (b ∷ xs))) (sym (ap (λ (x : Lexed). x.fault) e)) (lines, stuck b xs why is);
     }
 cut_piece fuel b xs at line le go (piece.Found f zero) is = absurd (let h = (found_longest (b ∷ xs) f zero (omega arith) is).some in omega arith)
 cut_piece fuel b xs at line le go (piece.Found form.Gap (suc n)) is =
@@ -81,7 +88,7 @@ cut_from fuel [] at line le = cut_end at line
 cut_from zero (b ∷ xs) at line le = absurd (omega arith)
 cut_from (suc fuel) (b ∷ xs) at line le = cut_piece fuel b xs at line (omega arith) (cut_from fuel) (piece_of (b ∷ xs)) refl
 
-pub cut_whole : (text : List ℕ) → (rest : List ℕ) × (c : Cut text (lexed text).tokens rest) × MatchOption (lexed text).fault (rest ≡ []) (λ e. e.line ≡ 1 + newlines (joined c.parts []))
+pub cut_whole : (text : List ℕ) → (rest : List ℕ) × (c : Cut text (lexed text).tokens rest) × MatchOption (lexed text).fault (rest ≡ []) (λ e. (e.line ≡ 1 + newlines (joined c.parts [])) × IsStuck rest)
 unfolding lexed
 cut_whole text =
     let g = cut_from (length text) text 0 1 (omega arith) in
@@ -114,7 +121,7 @@ one_cut text ts = (
   (λ (c : Cut text ts []). ap (λ (x : List ℕ). lexed_from x 0 0 1) (sym c.whole) ∙ lexed_parts c.parts 0 1 c.longest ∙ ap (λ (x : List Token). record { tokens = x; fault = None }) c.among),
   (λ (e : lexed text ≡ record { tokens = ts; fault = None }).
       let g = cut_from (length text) text 0 1 (omega arith) in
-      let over : g.rest ≡ [] = subst (λ (x : Option ReadError). MatchOption x (g.rest ≡ []) (λ e. e.line ≡ 1 + newlines (joined g.parts []))) (ap (λ (x : Lexed). x.fault) e) g.over in
+      let over : g.rest ≡ [] = subst (λ (x : Option ReadError). MatchOption x (g.rest ≡ []) (λ e. (e.line ≡ 1 + newlines (joined g.parts [])) × IsStuck g.rest)) (ap (λ (x : Lexed). x.fault) e) g.over in
       record { parts = g.parts; whole = rw over at g.whole; longest = rw over at g.longest; among = g.among ∙ ap (λ (x : Lexed). x.tokens) e }),
 )
 

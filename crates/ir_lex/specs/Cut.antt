@@ -133,9 +133,13 @@ InOrder text at (t ∷ ts) = Stands text at t × InOrder text t.to ts
 abbrev pub TokensInOrder : Type 0
 TokensInOrder = (text : List ℕ) → InOrder text 0 (lexed text).tokens
 
--- The tokens before the first fault are those of a text cut into longest pieces. Without a fault nothing is left over, and a fault's line is that of the place where the pieces end.
+-- no piece of any form within its limits can be cut off as the longest
+abbrev pub IsStuck : List ℕ → Type 0
+IsStuck rest = (p : Part) (after : List ℕ) → IsLongest p after → p.bytes ++ after ≡ rest → ⊥
+
+-- The tokens before the first fault are those of a text cut into longest pieces. Without a fault nothing is left over. With a fault the pieces end where no further one can be cut off, and the fault's line is that of this place.
 abbrev pub TokensAreCut : Type 0
-TokensAreCut = (text : List ℕ) → (rest : List ℕ) × (c : Cut text (lexed text).tokens rest) × MatchOption (lexed text).fault (rest ≡ []) (λ e. e.line ≡ 1 + newlines (joined c.parts []))
+TokensAreCut = (text : List ℕ) → (rest : List ℕ) × (c : Cut text (lexed text).tokens rest) × MatchOption (lexed text).fault (rest ≡ []) (λ e. (e.line ≡ 1 + newlines (joined c.parts [])) × IsStuck rest)
 
 -- A whole text is cut into longest pieces in one way alone, and its tokens are then the answer.
 abbrev pub OneCut : Type 0

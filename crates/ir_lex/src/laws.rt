@@ -7,8 +7,8 @@ pub fn law_tokens_in_order()
     ensures { TokensInOrder }
 {}
 
-/// The tokens before the first fault are those of a text cut into longest pieces, and without a fault nothing is left
-/// over.
+/// The tokens before the first fault are those of a text cut into longest pieces. Without a fault nothing is left over;
+/// with one the pieces end where no further piece can be cut off.
 pub fn law_tokens_are_cut()
     ensures { TokensAreCut }
 {}
