@@ -32,10 +32,6 @@ ones_of width h =
     let m : 64 - (64 - width) ≡ width = (let p = h.most in omega arith) in
     e ∙ ap (λ k. 2 ^ k - 1) m
 
--- a number is below half of 2^width where its double is below 2^width
-pub below_half : (width n : ℕ) → IsWidth width → (n < 2 ^ (width - 1)) → 2 * n < 2 ^ width
-below_half width n h p = let e = powers width h in omega arith
-
 -- the bits of an integer of the same width
 pub bits_below : (a b : Integer) → a.width ≡ b.width → IsInteger b → b.bits < 2 ^ a.width
 bits_below a b e h = subst (λ k. b.bits < 2 ^ k) (sym e) h.bits
