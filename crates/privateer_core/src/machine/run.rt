@@ -48,6 +48,7 @@ fn site(code: &Module, frame: &Frame) -> Site
 fn read(frame: &Frame, from: Operand) -> Result<Value, Trap>
     ensures { result ≡ operand frame.now from }
 {
+    // No operand of that form is a register.
     let _frame = frame;
     match from {
         Operand::Integer(n) => Ok(Value::Int(n)),
@@ -81,6 +82,7 @@ pub fn step(code: &Checked, state: &mut State, input: &[u8]) -> Result<Step, Mem
     ensures kept { result ≡ Ok Next → StateOf code.now state.new }
     ensures counted { state.new.steps ≡ state.old.steps + 1 }
 {
+    // No instruction of the form that is read today takes input.
     let _input = input;
     let module = code.module();
     let frame = state.frames.at(state.frames.len() - 1);
