@@ -1,0 +1,7 @@
+//! Output that turns printed beside each other, put into the order in which the turns would have printed it.
+#![tactic(auto)]
+
+pub mod order;
+pub mod output;
+#[cfg(test)]
+mod tests;

@@ -1,0 +1,7 @@
+pub mod Ranges
+pub mod Tables
+pub mod Sizes
+pub mod ByteCodes
+pub mod RangeEdits
+pub mod Refusals
+pub mod Histories

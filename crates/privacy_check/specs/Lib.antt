@@ -1,0 +1,3 @@
+pub mod Shadows
+pub mod Views
+pub mod History

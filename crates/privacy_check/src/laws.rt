@@ -1,0 +1,13 @@
+//! A shadow stands for sets of turns.
+ghost use Rattle.privacy_check.specs.History.{CodesLaw, RefusalLaw};
+
+/// Each code says which turns of the worker wrote its byte, in this period and in earlier ones, and whether one read it
+/// in this period.
+pub fn codes_law()
+    ensures { CodesLaw }
+{}
+
+/// An access is refused exactly at the first byte where those turns say so.
+pub fn refusal_law()
+    ensures { RefusalLaw }
+{}
