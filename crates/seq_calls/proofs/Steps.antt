@@ -8,7 +8,7 @@ use Rattle.std.specs.Fmt.{option_append}
 use Rattle.pv_base.specs.Outside.{Text}
 use Rattle.seq_calls.specs.declared.directive.Piece.{Piece}
 use Rattle.seq_calls.specs.declared.show.Arg.{Arg}
-use Rattle.seq_calls.specs.Format.{front_of, pieces_behind, pieces, text_of, next_number, text_number, printed, formatted, texts_of, text_args}
+use Rattle.seq_calls.specs.Format.{front_of, pieces_behind, text_of, next_number, text_number, printed, formatted, texts_of, text_args}
 
 pass : (n : ℕ) (text : Text) → pieces_behind n text ≡ pieces_behind 0 (drop n text)
 unfolding pieces_behind

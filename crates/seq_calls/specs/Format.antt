@@ -118,3 +118,10 @@ texts_of (p ∷ rest) args number =
 
 unfoldable pub text_args : Text → List Arg → List ℕ
 text_args format args = texts_of (pieces format) args 0
+
+-- there is an argument, and it is a pointer
+abbrev pub IsPointer : Option Arg → Type 0
+IsPointer None = ⊥
+IsPointer (Some (arg.Int n)) = ⊥
+IsPointer (Some (arg.Text t)) = Unit {0}
+IsPointer (Some arg.Other) = Unit {0}

@@ -1,6 +1,6 @@
 //! What `printf` prints, and the arguments whose texts it reads.
-ghost use Rattle.std.specs.Prelude.{◌≡◌, ◌≤◌, ◌++◌, option_map, length, IfOk, OnOk, IfErr, IfSome};
-ghost use Rattle.seq_calls.specs.Format.{text_of, next_number, text_number, formatted, text_args};
+ghost use Rattle.std.specs.Prelude.{◌≡◌, ◌≤◌, ◌++◌, option_map, length, slice_get, All, IfOk, OnOk, IfErr, IfSome};
+ghost use Rattle.seq_calls.specs.Format.{text_of, next_number, text_number, formatted, text_args, IsPointer};
 ghost use Rattle.seq_calls.specs.declared.show.FormatEnd.TheVariants.{Bad};
 
 use crate::directive::{Directive, Piece, first_piece};
@@ -45,7 +45,8 @@ fn note(piece: Piece, number: usize, found: &mut List<u32>) -> Result<(), Memory
 /// The numbers of the arguments, from 0 and in order, that the `%s` directives before the first trap take. A number above
 /// those of 32 bits counts as want of memory.
 pub fn text_args(alloc: Global, format: &[u8], args: &List<Arg>) -> Result<List<u32>, Memory>
-    ensures { IfOk result (λ found. found ≡ text_args format.now args.now) }
+    ensures exact { IfOk result (λ found. found ≡ text_args format.now args.now) }
+    ensures pointers { IfOk result (λ found. All (λ k. IsPointer (slice_get args.now k)) found) }
 {
     let mut found = List::new(alloc);
     let mut at = 0usize;

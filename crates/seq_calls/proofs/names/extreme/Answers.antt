@@ -1,4 +1,4 @@
-use Rattle.std.proofs.Common.{◌≡◌, ℕ, Option, Some, None, option_map, codes, sym, ap, ◌∙◌}
+use Rattle.std.proofs.Common.{◌≡◌, ℕ, Option, None, option_map, codes, ap, ◌∙◌}
 use Rattle.std.specs.Option.{option_or}
 use Rattle.pv_base.specs.Outside.{Text}
 use Rattle.pv_base.specs.declared.external.External.{External}

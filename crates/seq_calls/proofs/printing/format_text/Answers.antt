@@ -13,7 +13,7 @@ loop-at-preserved c =
     let at = c.loop-at.at in
     let front = c.first_piece-front.result in
     record {
-      within = omega (arith, length-drop at text, rest_is text at, c.first_piece-front.ensures.most);
+      within = omega (arith, length-drop at text, c.first_piece-front.ensures.most);
       counted = c.in-Ok.ensures.within;
       so_far = rw c.in-Ok.ensures.next (format_step text c.args.args.now c.loop-at.out c.print.new.out at front.length c.loop-at.number front.piece _ c.loop-at-test.true (ap front_of (sym (rest_is text at)) ∙ sym c.first_piece-front.ensures.value) c.first_piece-front.ensures.least c.in-Ok.ensures.ok c.loop-at.invariant.so_far);
     }

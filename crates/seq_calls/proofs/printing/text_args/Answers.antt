@@ -1,6 +1,7 @@
 use Rattle.std.proofs.Common.{ap, sym, ◌∙◌, arith}
 use Rattle.std.proofs.lemmas.List.{length-drop}
 use Rattle.seq_calls.specs.Format.{front_of}
+use Rattle.seq_calls.proofs.Pointers.{same_are_pointers}
 use Rattle.seq_calls.proofs.Steps.{rest_is, args_start, args_step, args_trap, args_end}
 use Rattle.seq_calls.proofs.printing.text_args.Goals as goal
 
@@ -13,7 +14,7 @@ loop-at-preserved c =
     let at = c.loop-at.at in
     let front = c.first_piece-front.result in
     record {
-      within = omega (arith, length-drop at text, rest_is text at, c.first_piece-front.ensures.most);
+      within = omega (arith, length-drop at text, c.first_piece-front.ensures.most);
       counted = c.in-Some.ensures.within;
       so_far = rw c.in_ok-note-in-Some.ensures (args_step text c.args.args.now c.loop-at.found at front.length c.loop-at.number c.in-Some.next front.piece _ c.loop-at-test.true (ap front_of (sym (rest_is text at)) ∙ sym c.first_piece-front.ensures.value) c.first_piece-front.ensures.least c.in-Some.ensures.value c.loop-at.invariant.so_far);
     }
@@ -23,7 +24,10 @@ returns-in-None c =
     let text = c.args.format.now in
     let at = c.loop-at.at in
     let front = c.first_piece-front.result in
-    args_trap text c.args.args.now c.loop-at.found at front.length c.loop-at.number front.piece _ c.loop-at-test.true (ap front_of (sym (rest_is text at)) ∙ sym c.first_piece-front.ensures.value) c.first_piece-front.ensures.least c.in-None.ensures.value c.loop-at.invariant.so_far
+    let exact = args_trap text c.args.args.now c.loop-at.found at front.length c.loop-at.number front.piece _ c.loop-at-test.true (ap front_of (sym (rest_is text at)) ∙ sym c.first_piece-front.ensures.value) c.first_piece-front.ensures.least c.in-None.ensures.value c.loop-at.invariant.so_far in
+    record { exact = exact; pointers = same_are_pointers text c.args.args.now _ exact }
 
 pub returns : goal.returns
-returns c = args_end c.args.format.now c.args.args.now c.loop-at.found c.loop-at.at c.loop-at.number _ c.loop-at-test.false c.loop-at.invariant.so_far
+returns c =
+    let exact = args_end c.args.format.now c.args.args.now c.loop-at.found c.loop-at.at c.loop-at.number _ c.loop-at-test.false c.loop-at.invariant.so_far in
+    record { exact = exact; pointers = same_are_pointers c.args.format.now c.args.args.now _ exact }
