@@ -1,3 +1,4 @@
 pub mod Outside
+pub mod External
 pub mod InMemory
 pub mod Views

@@ -2,6 +2,7 @@
 #![tactic(auto)]
 
 pub mod bytes;
+pub mod external;
 pub mod host;
 pub mod in_memory;
 pub mod list;

@@ -1,0 +1,3 @@
+pub mod Pointers
+pub mod Spelling
+pub mod Steps
