@@ -1,12 +1,18 @@
 //! Laws of the grammar of profiles: they are proved, and nothing is computed here.
 #![tactic(auto)]
 
-ghost use Rattle.profile_laws.specs.Laws.{OneProfile, FaultsAreFirst, FirstFaultsAreFound};
+ghost use Rattle.profile_laws.specs.Laws.{OneProfile, KeysTell, FaultsAreFirst, FirstFaultsAreFound};
 
 /// No two profiles have the same lines, so a text is the text of at most one.
 pub fn one_profile()
     ensures { OneProfile }
 {}
+
+/// A line repeats an earlier one of its loop exactly where both say the same, however they are spelled.
+pub fn keys_tell()
+    ensures { KeysTell }
+{
+}
 
 /// A text that is refused has the first fault that the refusal names, or no line that stands first.
 pub fn faults_are_first()
