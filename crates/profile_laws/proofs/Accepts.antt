@@ -1,5 +1,5 @@
 -- Readings and the grammar.
-use Rattle.std.proofs.Common.{◌≡◌, ℕ, ◌+◌, ◌<◌, ◌≤◌, Bool, true, false, cond, eqb, ltb, ◌&&◌, ◌||◌, List, [], ◌∷◌, ◌++◌, length, Option, Some, None, Result, Ok, Err, MatchBool, refl, sym, ap, subst, ◌∙◌, arith}
+use Rattle.std.proofs.Common.{◌≡◌, ℕ, ◌+◌, ◌≤◌, Bool, true, false, cond, eqb, ltb, ◌&&◌, ◌||◌, List, [], ◌∷◌, ◌++◌, length, Some, None, Result, Ok, Err, MatchBool, refl, sym, ap, subst, ◌∙◌, arith}
 use Rattle.std.specs.Prelude.{not}
 use Rattle.std.specs.Str.{bytes_eq}
 use Rattle.std.proofs.lemmas.List.{append-nil, append_assoc}
@@ -18,7 +18,7 @@ use Rattle.profile_lines.specs.Lines.{is_passed_over, head_line, line_of}
 use Rattle.profile_reader.specs.declared.read.ProfileError.{ProfileError}
 use Rattle.profile_reader.specs.Texts.{lines_of}
 use Rattle.profile_reader.specs.Grammar.{profile_lines}
-use Rattle.profile_reader.specs.Reading.{Said, last_rank, follows, repeats, pass, begin, add, add_read, take_line, step, is_last, go_on, said_from, headed, said_of}
+use Rattle.profile_reader.specs.Reading.{Said, last_rank, pass, begin, add, add_read, take_line, step, is_last, go_on, said_from, headed, said_of}
 use Rattle.profile_laws.specs.Accepted.{Spoken, Headed, InTurn, IsTextOf}
 
 abbrev Ended : Type 0

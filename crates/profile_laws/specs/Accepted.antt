@@ -1,5 +1,5 @@
 -- The grammar of profiles, a line at a time: what a text has to say so that it is the text of a profile.
-use Rattle.std.specs.Prelude.{◌≡◌, ℕ, ◌≤◌, Bool, true, false, List, [], ◌∷◌, ◌++◌, length, Result, Ok, Err}
+use Rattle.std.specs.Prelude.{◌≡◌, ◌≤◌, true, false, List, [], ◌∷◌, ◌++◌, length, Ok}
 use Rattle.std.specs.Bool.{MatchBool}
 use Rattle.pv_base.specs.Outside.{Text}
 use Rattle.profile_lines.specs.declared.profile.Profile.{Profile}

@@ -1,5 +1,5 @@
 -- Laws of the grammar of profiles.
-use Rattle.std.specs.Prelude.{◌≡◌, ℕ, ◌+◌, Bool, true, false, List, [], ◌∷◌, ◌++◌, length, Option, None, Some, Result, Ok, Err, ◌⊎◌}
+use Rattle.std.specs.Prelude.{◌≡◌, ℕ, ◌+◌, true, false, List, [], ◌∷◌, ◌++◌, length, None, Ok, Err, ◌⊎◌}
 use Rattle.pv_base.specs.Outside.{Text}
 use Rattle.profile_lines.specs.declared.profile.Profile.{Profile}
 use Rattle.profile_lines.specs.declared.profile.ProfileCause.{ProfileCause}

@@ -1,5 +1,5 @@
 -- A line that repeats another.
-use Rattle.std.proofs.Common.{◌≡◌, ℕ, Bool, true, false, cond, eqb, ◌&&◌, ◌||◌, List, Result, Ok, Err, refl, sym, ap, ◌∙◌}
+use Rattle.std.proofs.Common.{◌≡◌, ℕ, Bool, true, false, eqb, ◌&&◌, ◌||◌, List, Err, refl, sym, ◌∙◌}
 use Rattle.std.specs.Prelude.{not}
 use Rattle.profile_lines.specs.declared.profile.ProfileCause.TheVariants.{Repeat}
 use Rattle.profile_lines.specs.declared.lines.Line.{Line}

@@ -1,8 +1,7 @@
 -- A line at the end of its loop.
-use Rattle.std.proofs.Common.{◌≡◌, ℕ, ◌<◌, ◌≤◌, List, [], ◌∷◌, ◌++◌, refl, sym, ap, ◌∙◌, arith}
+use Rattle.std.proofs.Common.{◌≡◌, List, [], ◌∷◌, ◌++◌, sym, ap, ◌∙◌, arith}
 use Rattle.std.specs.Prelude.{map}
-use Rattle.std.specs.List.{flat_map}
-use Rattle.std.proofs.lemmas.List.{append-nil, append_assoc, map_push, flat_map_more}
+use Rattle.std.proofs.lemmas.List.{append-nil, append_assoc, map_push}
 use Rattle.profile_lines.specs.declared.profile.ProfileName.{ProfileName}
 use Rattle.profile_lines.specs.declared.profile.PhiLine.{PhiLine}
 use Rattle.profile_lines.specs.declared.profile.UseLine.{UseLine}
@@ -11,8 +10,8 @@ use Rattle.profile_lines.specs.declared.profile.FlowLine.{FlowLine}
 use Rattle.profile_lines.specs.declared.profile.ValueLine.{ValueLine}
 use Rattle.profile_lines.specs.declared.profile.ProfileLoop.{ProfileLoop}
 use Rattle.profile_lines.specs.declared.lines.Line.{Line}
-use Rattle.profile_lines.specs.declared.lines.Line.TheVariants.{Loop, Block, Phi, Use, Local, Flow, Value, End}
-use Rattle.profile_reader.specs.Grammar.{open_lines, loop_lines}
+use Rattle.profile_lines.specs.declared.lines.Line.TheVariants.{Loop, Block, Phi, Use, Local, Flow, Value}
+use Rattle.profile_reader.specs.Grammar.{open_lines}
 use Rattle.profile_reader.specs.Standing.{InOrder}
 
 -- one more at the end of one kind of line, with empty kinds after it
@@ -109,9 +108,3 @@ put_block l x h =
     let no_flows : l.flows ≡ [] = h.flows (omega arith) in
     let no_values : l.values ≡ [] = h.values (omega arith) in
     rw (no_phis, no_uses, no_locals, no_flows, no_values) (put5 (front_blocks l) (λ y. Block y) l.blocks x)
-
--- the open loop ends
-pub end_loop : (loops : List ProfileLoop) (l : ProfileLoop)
-    → flat_map loop_lines (loops ++ l ∷ []) ++ [] ≡ (flat_map loop_lines loops ++ open_lines l) ++ End ∷ []
-end_loop loops l =
-    append-nil _ ∙ sym (flat_map_more loop_lines [] loops l) ∙ sym (append_assoc (flat_map loop_lines loops) (open_lines l) (End ∷ []))

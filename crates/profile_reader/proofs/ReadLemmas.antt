@@ -1,5 +1,5 @@
 -- One line more, and the end of the text.
-use Rattle.std.proofs.Common.{◌≡◌, ℕ, suc, ◌+◌, Bool, true, false, cond, eqb, List, [], ◌∷◌, ◌++◌, Option, Some, None, Result, Ok, Err, length, refl, sym, ap, ◌∙◌, inl, inr, arith}
+use Rattle.std.proofs.Common.{◌≡◌, ℕ, suc, ◌+◌, Bool, true, false, cond, eqb, List, [], ◌∷◌, None, Ok, Err, length, refl, sym, ap, ◌∙◌, inl, inr, arith}
 use Rattle.std.specs.List.{flat_map}
 use Rattle.std.proofs.lemmas.List.{append-nil}
 use Rattle.std.proofs.lemmas.Bool.Decides.{eqb_tells}
@@ -7,12 +7,11 @@ use Rattle.pv_base.specs.Outside.{Text}
 use Rattle.profile_lines.specs.declared.profile.ProfileCause.{ProfileCause}
 use Rattle.profile_lines.specs.declared.profile.ProfileCause.TheVariants.{Head}
 use Rattle.profile_lines.specs.Cuts.{Reading}
-use Rattle.profile_reader.specs.declared.read.ProfileError.{ProfileError}
 use Rattle.profile_reader.specs.declared.reader.Reader.{Reader}
 use Rattle.profile_reader.specs.Texts.{lines_of, before_lines}
 use Rattle.profile_reader.specs.Grammar.{loop_lines}
-use Rattle.profile_reader.specs.Reading.{Said, step, is_last, said_from, said_of, go_on, headed}
-use Rattle.profile_reader.specs.Standing.{said_by, lines_said}
+use Rattle.profile_reader.specs.Reading.{Said, step, is_last, said_from, go_on, headed}
+use Rattle.profile_reader.specs.Standing.{said_by}
 
 is_last_cond : (b : ℕ) (t : Bool) (lines : List Text) → is_last (cond t ([] ∷ lines) (before_lines b lines)) ≡ false
 is_last_cond b true lines = refl

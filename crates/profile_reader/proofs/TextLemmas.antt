@@ -1,5 +1,5 @@
 -- The first line of a text is what stands before its first newline.
-use Rattle.std.proofs.Common.{◌≡◌, ℕ, suc, ◌+◌, ◌<◌, Bool, true, false, cond, eqb, List, [], ◌∷◌, Option, Some, None, MatchOption, length, refl, sym, subst, arith}
+use Rattle.std.proofs.Common.{◌≡◌, ℕ, ◌<◌, Bool, true, false, cond, eqb, List, [], ◌∷◌, Option, Some, None, MatchOption, length, refl, sym, subst, arith}
 use Rattle.std.specs.Prelude.{option_map}
 use Rattle.pv_base.specs.Outside.{Text}
 use Rattle.profile_lines.specs.Cuts.{cut}
@@ -41,7 +41,3 @@ no_newline (b ∷ bs) l h = h
 
 pub line_at_none : (text : Text) → 0 < length text → None ≡ cut 10 text → lines_of text ≡ text ∷ []
 line_at_none text l e = no_newline text l (subst (λ (o : Option (Text × Text)). CutsLine text o) (sym e) (cuts_line text))
-
-before_some : (b : ℕ) (lines : List Text) → (l : Text) × (ls : List Text) × (before_lines b lines ≡ l ∷ ls)
-before_some b [] = (b ∷ [], [], refl)
-before_some b (line ∷ lines) = (b ∷ line, lines, refl)

@@ -3,7 +3,6 @@ use Rattle.std.specs.Prelude.{ℕ, ◌+◌, Bool, true, false, not, ◌&&◌, �
 use Rattle.std.specs.Str.{bytes_eq}
 use Rattle.std.specs.List.{list_any}
 use Rattle.pv_base.specs.Outside.{Text}
-use Rattle.profile_lines.specs.declared.profile.ProfileCause.{ProfileCause}
 use Rattle.profile_lines.specs.declared.profile.ProfileCause.TheVariants.{Head, Order, Repeat, TooLong}
 use Rattle.profile_lines.specs.declared.lines.Line.{Line}
 use Rattle.profile_lines.specs.Cuts.{Reading}

@@ -1,6 +1,5 @@
-use Rattle.std.proofs.Common.{sym, ap, ◌∙◌, ◌∷◌, length, arith}
+use Rattle.std.proofs.Common.{length, arith}
 use Rattle.std.proofs.lemmas.List.{take_rest, drop_all}
-use Rattle.profile_reader.specs.Texts.{lines_of}
 use Rattle.profile_reader.proofs.TextLemmas.{line_at_some, line_at_none}
 use Rattle.profile_reader.proofs.lines.first_line.Goals as goal
 

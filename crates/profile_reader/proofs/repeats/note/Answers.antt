@@ -1,4 +1,4 @@
-use Rattle.std.proofs.Common.{sym, ap, ◌∙◌}
+use Rattle.std.proofs.Common.{ap, ◌∙◌}
 use Rattle.std.specs.Prelude.{not}
 use Rattle.profile_reader.proofs.SetLemmas.{holds_more, new_at}
 use Rattle.profile_reader.proofs.repeats.note.Goals as goal
