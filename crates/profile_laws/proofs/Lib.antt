@@ -1,0 +1,4 @@
+pub mod Undo
+pub mod Faults
+pub mod SameKeys
+pub mod Accepts

@@ -1,0 +1,5 @@
+pub mod Cuts
+pub mod Numbers
+pub mod Names
+pub mod Lines
+pub mod Keys

@@ -1,0 +1,5 @@
+pub mod TextLemmas
+pub mod SetLemmas
+pub mod KeepLemmas
+pub mod ReadLemmas
+pub mod AddLemmas
