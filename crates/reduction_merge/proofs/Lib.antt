@@ -1,0 +1,3 @@
+pub mod Wide
+pub mod Additions
+pub mod RangeSteps

@@ -1,0 +1,15 @@
+//! What a partial says of a list of operands.
+ghost use Rattle.reduction_merge.specs.Operands.{StartLaw, AddLaw, RangeLaw};
+
+/// A new partial is that of no operand, and one to which an operand is added is that of one operand more: it has their
+/// count, the sums of their signed values above 0 and below 0 and of their unsigned ones, and their fold.
+pub fn operands_law()
+    ensures start { StartLaw }
+    ensures add { AddLaw }
+{}
+
+/// Where the range test of a partial passes, adding its operands one by one to the first value, in any order, leaves the
+/// range of no flag at any step.
+pub fn range_law()
+    ensures { RangeLaw }
+{}
