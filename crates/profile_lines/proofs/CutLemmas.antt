@@ -1,5 +1,5 @@
 -- The first place of a byte is where a text is cut.
-use Rattle.std.proofs.Common.{◌≡◌, ℕ, zero, suc, ◌+◌, ◌<◌, Bool, true, false, cond, eqb, List, [], ◌∷◌, Option, Some, None, length, get_or, take, drop, refl, arith}
+use Rattle.std.proofs.Common.{◌≡◌, ℕ, zero, suc, ◌<◌, Bool, true, false, eqb, List, [], ◌∷◌, Some, None, length, get_or, take, drop, refl, arith}
 use Rattle.profile_lines.specs.Cuts.{cut}
 
 pub not_true : (t : Bool) → (t ≡ true → ⊥) → t ≡ false

@@ -1,8 +1,8 @@
 -- Parts of a text, and facts of two fields.
-use Rattle.std.specs.Prelude.{ℕ, List, [], ◌∷◌, ◌==◌, Option, None, Some, option_map, Result, Ok, Err, if◌then◌else◌}
+use Rattle.std.specs.Prelude.{ℕ, [], ◌∷◌, ◌==◌, Option, None, Some, option_map, Result, Ok, Err, if◌then◌else◌}
 use Rattle.pv_base.specs.Outside.{Text}
 use Rattle.profile_lines.specs.declared.profile.ProfileCause.{ProfileCause}
-use Rattle.profile_lines.specs.declared.profile.ProfileCause.TheVariants.{Head, Word, Number, Order, Repeat, TooLong}
+use Rattle.profile_lines.specs.declared.profile.ProfileCause.TheVariants.{Word, Number}
 
 -- what stands before the first such byte, and what stands after it
 abbrev pub cut : ℕ → Text → Option (Text × Text)

@@ -1,17 +1,13 @@
 -- What one line says.
-use Rattle.std.specs.Prelude.{ℕ, ℤ, Bool, true, false, List, [], ◌∷◌, ◌==◌, length, nat_lt, Option, None, Some, Result, Ok, Err, if◌then◌else◌, codes}
+use Rattle.std.specs.Prelude.{ℕ, Bool, true, [], ◌∷◌, ◌==◌, Option, None, Some, Ok, Err, if◌then◌else◌, codes}
 use Rattle.std.specs.Str.{bytes_eq}
 use Rattle.pv_base.specs.Outside.{Text}
-use Rattle.profile_lines.specs.declared.profile.ProfileCause.TheVariants.{Word, TooLong}
+use Rattle.profile_lines.specs.declared.profile.ProfileCause.TheVariants.{Word}
 use Rattle.profile_lines.specs.declared.profile.ProfileName.{ProfileName}
 use Rattle.profile_lines.specs.declared.profile.SiteName.{SiteName}
 use Rattle.profile_lines.specs.declared.profile.ObjectName.{ObjectName}
 use Rattle.profile_lines.specs.declared.profile.PhiWord.{PhiWord}
 use Rattle.profile_lines.specs.declared.profile.PhiWord.TheVariants.{Step, Same, Reduce}
-use Rattle.profile_lines.specs.declared.profile.PhiLine.{PhiLine}
-use Rattle.profile_lines.specs.declared.profile.UseLine.{UseLine}
-use Rattle.profile_lines.specs.declared.profile.FlowLine.{FlowLine}
-use Rattle.profile_lines.specs.declared.profile.ValueLine.{ValueLine}
 use Rattle.profile_lines.specs.declared.lines.Line.{Line}
 use Rattle.profile_lines.specs.declared.lines.Line.TheVariants.{Loop, Block, Phi, Use, Local, Flow, Value, End}
 use Rattle.profile_lines.specs.Cuts.{Reading, map_reading, parted, cut}

@@ -1,6 +1,6 @@
 -- Names, sites and objects. A name is spelled as in LLVM's assembly language: its sign, and then letters, digits and
 -- `-$._`, or digits, or a string.
-use Rattle.std.specs.Prelude.{ℕ, ◌-◌, Bool, ◌&&◌, ◌||◌, List, [], ◌∷◌, ◌==◌, nat_le, Option, None, Some, Result, Ok, Err, if◌then◌else◌}
+use Rattle.std.specs.Prelude.{ℕ, Bool, ◌&&◌, ◌||◌, [], ◌∷◌, ◌==◌, nat_le, Option, None, Some, Ok, Err, if◌then◌else◌}
 use Rattle.std.specs.List.{list_all}
 use Rattle.std.specs.Char.{is_ascii_digit}
 use Rattle.pv_base.specs.Outside.{Text}

@@ -1,4 +1,4 @@
-use Rattle.std.proofs.Common.{arith, add-one, sym, ◌≡◌}
+use Rattle.std.proofs.Common.{arith, add-one, sym}
 use Rattle.std.proofs.lemmas.List.{take_rest}
 use Rattle.profile_lines.proofs.CutLemmas.{cut_none, cut_some}
 use Rattle.profile_lines.proofs.cut.cut.Goals as goal

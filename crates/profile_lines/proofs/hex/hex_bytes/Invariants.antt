@@ -1,4 +1,4 @@
-use Rattle.std.proofs.Common.{◌≡◌, ◌++◌, length, Option}
+use Rattle.std.proofs.Common.{◌≡◌, length}
 use Rattle.profile_lines.specs.Numbers.{hex_bytes}
 use Rattle.profile_lines.proofs.FrontLemmas.{after}
 use Rattle.profile_lines.proofs.hex.hex_bytes.Given as goal

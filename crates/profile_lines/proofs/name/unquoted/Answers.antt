@@ -1,4 +1,4 @@
-use Rattle.std.proofs.Common.{sym, ◌∙◌, arith, rules}
+use Rattle.std.proofs.Common.{sym, ◌∙◌}
 use Rattle.std.proofs.lemmas.List.{take_rest}
 use Rattle.profile_lines.proofs.SpelledLemmas.{escape_step, plain_step}
 use Rattle.profile_lines.proofs.name.unquoted.Goals as goal

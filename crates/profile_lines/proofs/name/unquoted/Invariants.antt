@@ -1,4 +1,4 @@
-use Rattle.std.proofs.Common.{◌≡◌, ◌++◌, length, Option}
+use Rattle.std.proofs.Common.{◌≡◌, length}
 use Rattle.profile_lines.specs.Names.{unquoted}
 use Rattle.profile_lines.proofs.FrontLemmas.{after}
 use Rattle.profile_lines.proofs.name.unquoted.Given as goal
