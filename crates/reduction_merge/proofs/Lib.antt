@@ -1,3 +1,4 @@
 pub mod Wide
 pub mod Additions
 pub mod RangeSteps
+pub mod Folding

@@ -1,5 +1,5 @@
 -- Where the range test passes, no step of an addition leaves a promised range.
-use Rattle.std.proofs.Common.{◌≡◌, ℕ, suc, ◌+◌, ◌-◌, ◌*◌, ◌%◌, ◌^◌, ◌<◌, ◌≤◌, ◌⊎◌, inl, inr, ℤ, pos, negsuc, neg_ℤ, ◌+ℤ◌, ◌≤ℤ◌, ◌<ℤ◌, Bool, true, false, not, ◌&&◌, ◌||◌, List, [], ◌∷◌, sum_by, Result, Ok, refl, sym, ap, subst, ◌∙◌, arith, All, nat_lt}
+use Rattle.std.proofs.Common.{◌≡◌, ℕ, ◌+◌, ◌-◌, ◌%◌, ◌^◌, ◌<◌, ◌≤◌, ◌⊎◌, inl, inr, ℤ, pos, negsuc, neg_ℤ, ◌+ℤ◌, ◌≤ℤ◌, ◌<ℤ◌, Bool, true, false, not, ◌&&◌, ◌||◌, List, [], ◌∷◌, sum_by, Ok, refl, sym, ap, subst, ◌∙◌, arith, All, nat_lt}
 use Rattle.std.specs.Prelude.{int_lt, int_le}
 use Rattle.std.proofs.lemmas.Bool.{cases_lt}
 use Rattle.std.proofs.lemmas.Bool.Decides.{nat_tests}
@@ -15,11 +15,11 @@ use Rattle.int_num.specs.Reductions.{reduce}
 use Rattle.int_num.specs.declared.ops.RedOp.TheVariants.{Add}
 use Rattle.int_num.specs.declared.ops.Flags.{Flags}
 use Rattle.int_num.specs.declared.ops.Poison.TheVariants.{Overflow}
-use Rattle.int_num.proofs.Powers.{Powers, powers}
+use Rattle.int_num.proofs.Powers.{powers}
 use Rattle.int_num.proofs.Residues.{residue_pos}
 use Rattle.int_num.proofs.Signs.{signed_low, signed_high}
 use Rattle.int_num.proofs.Widths.{reduce_keeps_width}
-use Rattle.reduction_merge.specs.Partials.{PartialOf, promises_kept, unsigned_stays, signed_stays, stays_in_range}
+use Rattle.reduction_merge.specs.Partials.{PartialOf, stays_in_range}
 use Rattle.reduction_merge.specs.Operands.{IsPartialOf, AddsUp, RangeLaw, up, down}
 
 -- the range test, on a list of operands

@@ -1,13 +1,13 @@
 -- A partial of a list of operands, and what its range test is for.
-use Rattle.std.specs.Prelude.{◌≡◌, ℕ, zero, suc, ◌+◌, ℤ, pos, negsuc, neg_ℤ, List, [], ◌∷◌, ◌++◌, length, All, sum_by, true, Result, Ok}
+use Rattle.std.specs.Prelude.{◌≡◌, ℕ, suc, ℤ, pos, negsuc, neg_ℤ, List, [], ◌∷◌, ◌++◌, length, All, sum_by, true, Some, None, Ok, if◌then◌else◌}
 use Rattle.std.specs.List.Sorted.{IsPermutation}
-use Rattle.int_num.specs.Integer.{Integer, HasWidth, signed}
+use Rattle.int_num.specs.Integer.{Integer, IsWidth, HasWidth, signed}
 use Rattle.int_num.specs.Operations.{add}
 use Rattle.int_num.specs.Reductions.{reduce, identity}
 use Rattle.int_num.specs.declared.ops.RedOp.{RedOp}
 use Rattle.int_num.specs.declared.ops.RedOp.TheVariants.{Add}
 use Rattle.int_num.specs.declared.ops.Flags.{Flags}
-use Rattle.reduction_merge.specs.Partials.{PartialOf, started, added, stays_in_range}
+use Rattle.reduction_merge.specs.Partials.{PartialOf, SameKind, started, added, joined, finished, stays_in_range}
 
 -- how far a number is above 0, and how far below
 abbrev pub up : ℤ → ℕ
@@ -39,6 +39,16 @@ StartLaw = (op : RedOp) (flags : Flags) (width : ℕ) → IsPartialOf (started o
 -- and one more operand makes it that of one operand more
 abbrev pub AddLaw : Type 0
 AddLaw = (p : PartialOf) (xs : List Integer) (x : Integer) → IsPartialOf p xs → IsPartialOf (added p x) (xs ++ x ∷ [])
+
+-- two partials of one reduction, joined, are that of the operands of both
+abbrev pub JoinLaw : Type 0
+JoinLaw = (p q : PartialOf) (xs ys : List Integer) → IsPartialOf p xs → IsPartialOf q ys → SameKind p q → IsWidth p.width → All (HasWidth p.width) xs → All (HasWidth p.width) ys
+    → IsPartialOf (joined p q) (xs ++ ys)
+
+-- where the range test passes, what is finished is the first value folded with all operands; else there is none
+abbrev pub FinishLaw : Type 0
+FinishLaw = (p : PartialOf) (xs : List Integer) (first : Integer) → IsPartialOf p xs → HasWidth p.width first → All (HasWidth p.width) xs
+    → finished p first ≡ (if stays_in_range p first then Some (fold_from p.op first xs) else None)
 
 -- no step of an addition of the operands one by one leaves a promised range
 abbrev pub AddsUp : Flags → Integer → List Integer → Type 0

@@ -1,7 +1,7 @@
 -- What a worker keeps of the operands of one reduction.
-use Rattle.std.specs.Prelude.{◌≡◌, ◌<◌, ◌≤◌, ℕ, ◌+◌, ◌-◌, ◌^◌, ℤ, pos, neg_ℤ, ◌+ℤ◌, ◌≤ℤ◌, Bool, true, not, ◌&&◌, ◌||◌, nat_lt, int_lt, int_le, Option, Some, None, if◌then◌else◌}
+use Rattle.std.specs.Prelude.{◌≡◌, ◌≤◌, ℕ, ◌+◌, ◌-◌, ◌^◌, ℤ, pos, neg_ℤ, ◌+ℤ◌, ◌≤ℤ◌, Bool, not, ◌&&◌, ◌||◌, nat_lt, int_lt, int_le, Option, Some, None, if◌then◌else◌}
 use Rattle.std.specs.Int.{int_max, int_min}
-use Rattle.int_num.specs.Integer.{Integer, IsWidth, IsInteger, HasWidth, signed}
+use Rattle.int_num.specs.Integer.{Integer, IsWidth, HasWidth, signed}
 use Rattle.int_num.specs.Reductions.{reduce, identity}
 use Rattle.int_num.specs.declared.ops.RedOp.{RedOp}
 use Rattle.int_num.specs.declared.ops.Flags.{Flags}

@@ -1,4 +1,4 @@
-use Rattle.std.proofs.Common.{◌≡◌, ℤ, pos, ◌≤ℤ◌, to_z, of_z, sym, subst, arith, ap, ◌∙◌}
+use Rattle.std.proofs.Common.{◌≡◌, pos, ◌≤ℤ◌, to_z, of_z, sym, subst, arith, ap, ◌∙◌}
 use Rattle.std.specs.Int.{w128}
 use Rattle.std.proofs.lemmas.Int.{ints}
 use Rattle.int_num.specs.Integer.{Integer, HasWidth}

@@ -3,7 +3,7 @@ use Rattle.std.proofs.lemmas.Int.{ints}
 use Rattle.int_num.specs.Integer.{Integer, HasWidth}
 use Rattle.int_num.specs.Reductions.{reduce}
 use Rattle.int_num.proofs.Widths.{reduce_keeps_width}
-use Rattle.reduction_merge.specs.Partials.{PartialOf, SumsFit, joined}
+use Rattle.reduction_merge.specs.Partials.{PartialOf}
 use Rattle.reduction_merge.proofs.partial.Partial.join.Goals as goal
 
 pub invariant_of-self : goal.invariant_of-self
