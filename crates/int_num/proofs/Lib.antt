@@ -1,1 +1,6 @@
 pub mod Powers
+pub mod Residues
+pub mod Ranges
+pub mod Signs
+pub mod Quotients
+pub mod Widths

@@ -1,9 +1,9 @@
 -- The powers of two of a width.
-use Rattle.std.proofs.Common.{ℕ, suc, ◌+◌, ◌-◌, ◌*◌, ◌/◌, ◌^◌, ◌<◌, ◌≤◌, ◌≡◌, refl, sym, ap, ◌∙◌, arith, rules}
+use Rattle.std.proofs.Common.{ℕ, suc, ◌-◌, ◌*◌, ◌/◌, ◌^◌, ◌<◌, ◌≤◌, ◌≡◌, sym, ap, subst, ◌∙◌, arith}
 use Rattle.std.proofs.Math.Nat.{pow-suc}
 use Rattle.std.proofs.Math.Pow.{pow_pos, pow_mono}
 use Rattle.std.proofs.lemmas.Nat.Bits.{ones_shr}
-use Rattle.int_num.specs.Integer.{IsWidth}
+use Rattle.int_num.specs.Integer.{IsWidth, IsInteger, Integer}
 
 -- half of 2^width, and its bounds
 pub record Powers (width : ℕ) : Type 0 where
@@ -35,3 +35,7 @@ ones_of width h =
 -- a number is below half of 2^width where its double is below 2^width
 pub below_half : (width n : ℕ) → IsWidth width → (n < 2 ^ (width - 1)) → 2 * n < 2 ^ width
 below_half width n h p = let e = powers width h in omega arith
+
+-- the bits of an integer of the same width
+pub bits_below : (a b : Integer) → a.width ≡ b.width → IsInteger b → b.bits < 2 ^ a.width
+bits_below a b e h = subst (λ k. b.bits < 2 ^ k) (sym e) h.bits

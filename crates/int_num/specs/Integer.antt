@@ -1,5 +1,5 @@
 -- An integer of a width, as its bits, and as the signed number that the bits stand for in two's complement.
-use Rattle.std.specs.Prelude.{ℕ, ◌+◌, ◌-◌, ◌*◌, ◌^◌, ◌<◌, ◌≤◌, ℤ, pos, ◌-ℤ◌, nat_lt, if◌then◌else◌}
+use Rattle.std.specs.Prelude.{◌≡◌, ℕ, ◌*◌, ◌^◌, ◌<◌, ◌≤◌, ℤ, pos, ◌-ℤ◌, nat_lt, if◌then◌else◌}
 
 pub record Integer : Type 0 where
   pub width : ℕ
@@ -14,6 +14,11 @@ pub record IsWidth (n : ℕ) : Type 0 where
 pub record IsInteger (n : Integer) : Type 0 where
   pub width : IsWidth n.width
   pub bits : n.bits < 2 ^ n.width
+
+-- an integer of this width
+pub record HasWidth (w : ℕ) (n : Integer) : Type 0 where
+  pub integer : IsInteger n
+  pub width : n.width ≡ w
 
 -- the number of these bits in two's complement: from half of 2^width on it is the bits less 2^width
 abbrev pub signed_of : ℕ → ℕ → ℤ

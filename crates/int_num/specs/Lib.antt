@@ -1,3 +1,4 @@
 pub mod Integer
+pub mod Laws
 pub mod Operations
 pub mod Reductions

@@ -1,6 +1,6 @@
 -- The operations on integers of a width, after the LLVM Language Reference. Each is arithmetic on whole numbers, and answers an
 -- integer or the cause for which there is none.
-use Rattle.std.specs.Prelude.{ℕ, ◌+◌, ◌-◌, ◌*◌, ◌/◌, ◌%◌, ◌^◌, ◌<◌, ℤ, pos, negsuc, ◌+ℤ◌, ◌-ℤ◌, ◌*ℤ◌, neg_ℤ, Bool, not, ◌&&◌, ◌||◌, nat_eq, nat_lt, nat_le, int_lt, int_le, int_div, int_rem, unsigned_abs, bit_and, bit_or, bit_xor, Result, Ok, Err, if◌then◌else◌}
+use Rattle.std.specs.Prelude.{ℕ, ◌-◌, ◌*◌, ◌/◌, ◌%◌, ◌^◌, ◌<◌, ℤ, pos, negsuc, ◌+ℤ◌, ◌-ℤ◌, ◌*ℤ◌, neg_ℤ, Bool, not, ◌&&◌, ◌||◌, nat_eq, nat_lt, nat_le, int_lt, int_le, int_div, int_rem, unsigned_abs, bit_and, bit_or, bit_xor, Result, Ok, Err, if◌then◌else◌}
 use Rattle.std.specs.Int.{int_div_euclid}
 use Rattle.std.specs.Ordering.{int_eq}
 use Rattle.int_num.specs.Integer.{Integer, signed}
@@ -28,20 +28,20 @@ abbrev pub modulo : ℕ → ℤ → Integer
 modulo width z = of_bits width (residue width z)
 
 -- from 0 to 2^width - 1
-abbrev pub fits_unsigned : ℕ → ℤ → Bool
+unfoldable pub fits_unsigned : ℕ → ℤ → Bool
 fits_unsigned width z = int_le (pos 0) z && int_lt z (pos (2 ^ width))
 
 -- from -2^(width - 1) to 2^(width - 1) - 1
-abbrev pub fits_signed : ℕ → ℤ → Bool
+unfoldable pub fits_signed : ℕ → ℤ → Bool
 fits_signed width z = int_le (neg_ℤ (pos (2 ^ (width - 1)))) z && int_lt z (pos (2 ^ (width - 1)))
 
--- no flag is broken by a result that is u without signs and s with them
-abbrev pub stays : Flags → ℕ → ℤ → ℤ → Bool
-stays flags width u s = (not flags.nuw || fits_unsigned width u) && (not flags.nsw || fits_signed width s)
+-- an integer, or this cause where a promise is broken: `nuw` of a number without signs that does not fit, `nsw` of one with them
+unfoldable pub keeps : Poison → Flags → Bool → Bool → Integer → Result Integer Poison
+keeps cause flags fits_u fits_s n = if (not flags.nuw || fits_u) && (not flags.nsw || fits_s) then Ok n else Err cause
 
--- a result without signs, modulo 2^width; Overflow where a flag is broken
+-- the number u modulo 2^width; Overflow where u, or the same result s with signs, leaves a range that was promised
 abbrev pub within : Flags → ℕ → ℤ → ℤ → Result Integer Poison
-within flags width u s = if stays flags width u s then Ok (modulo width u) else Err Overflow
+within flags width u s = keeps Overflow flags (fits_unsigned width u) (fits_signed width s) (modulo width u)
 
 abbrev pub add : Flags → Integer → Integer → Result Integer Poison
 add flags a b = within flags a.width (pos a.bits +ℤ pos b.bits) (signed a +ℤ signed b)
@@ -53,7 +53,7 @@ abbrev pub mul : Flags → Integer → Integer → Result Integer Poison
 mul flags a b = within flags a.width (pos a.bits *ℤ pos b.bits) (signed a *ℤ signed b)
 
 -- Flag where `exact` is promised and there is a rest
-abbrev pub without_rest : Flags → ℕ → Integer → Result Integer Poison
+unfoldable pub without_rest : Flags → ℕ → Integer → Result Integer Poison
 without_rest flags rest n = if flags.exact && not (nat_eq rest 0) then Err Flag else Ok n
 
 abbrev pub udiv : Flags → Integer → Integer → Result Integer Poison
@@ -67,7 +67,7 @@ abbrev pub least : ℕ → ℤ
 least width = neg_ℤ (pos (2 ^ (width - 1)))
 
 -- neither a division by 0 nor the least number by -1, whose quotient does not fit
-abbrev pub divides : Integer → Integer → Bool
+unfoldable pub divides : Integer → Integer → Bool
 divides a b = not (nat_eq b.bits 0) && not (int_eq (signed a) (least a.width) && int_eq (signed b) (neg_ℤ (pos 1)))
 
 -- the quotient rounded toward zero
@@ -134,7 +134,7 @@ compare Sle a b = int_le (signed a) (signed b)
 
 -- Flag where `nuw` is promised and the number without signs does not fit the smaller width, or `nsw` and the signed one does not
 abbrev pub trunc : Flags → Integer → ℕ → Result Integer Poison
-trunc flags a width = if stays flags width (pos a.bits) (signed a) then Ok (modulo width (pos a.bits)) else Err Flag
+trunc flags a width = keeps Flag flags (fits_unsigned width (pos a.bits)) (fits_signed width (signed a)) (modulo width (pos a.bits))
 
 -- Flag where `nneg` is promised and the number is negative
 abbrev pub zext : Flags → Integer → ℕ → Result Integer Poison
@@ -150,7 +150,7 @@ cast Zext flags a width = zext flags a width
 cast Sext flags a width = sext a width
 
 -- `trunc` goes to a smaller width, and the others to a larger one
-abbrev pub Fits : CastOp → ℕ → ℕ → Type 0
-Fits Trunc old new = new < old
-Fits Zext old new = old < new
-Fits Sext old new = old < new
+abbrev pub FitsCast : CastOp → ℕ → ℕ → Type 0
+FitsCast Trunc old new = new < old
+FitsCast Zext old new = old < new
+FitsCast Sext old new = old < new

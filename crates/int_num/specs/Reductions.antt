@@ -1,5 +1,5 @@
 -- Operations that join many integers of a width into one, in any order.
-use Rattle.std.specs.Prelude.{ℕ, ◌+◌, ◌-◌, ◌*◌, ◌%◌, ◌^◌, bit_and, bit_or, bit_xor, nat_lt, int_lt, if◌then◌else◌}
+use Rattle.std.specs.Prelude.{ℕ, ◌+◌, ◌-◌, ◌*◌, ◌%◌, ◌^◌, nat_lt, int_lt, if◌then◌else◌}
 use Rattle.int_num.specs.Integer.{Integer, signed}
 use Rattle.int_num.specs.Operations.{of_bits, conjunction, disjunction, difference}
 use Rattle.int_num.specs.declared.ops.RedOp.{RedOp}

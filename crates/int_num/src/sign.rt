@@ -1,6 +1,7 @@
-//! The signed number of an integer, and the numbers at a width's bounds.
-ghost use Rattle.std.specs.Prelude.{◌≡◌, ◌-◌, ◌^◌};
+//! The signed number of an integer, the numbers at a width's bounds, and what is left of a number at a width.
+ghost use Rattle.std.specs.Prelude.{◌≡◌, ◌-◌, ◌%◌, ◌^◌, pos};
 ghost use Rattle.int_num.specs.Integer.{IsWidth, signed};
+ghost use Rattle.int_num.specs.Operations.{of_bits, modulo, fits_unsigned, fits_signed};
 
 use crate::int::Int;
 
@@ -29,4 +30,37 @@ pub fn signed(a: Int) -> i64
     } else {
         -1 - (ones(a.width()) - a.bits()) as i64
     }
+}
+
+/// The low bits.
+pub(crate) fn low(width: u32, bits: u64) -> Int
+    requires { IsWidth width }
+    ensures { result ≡ of_bits width (bits % 2 ^ width) }
+{
+    Int::new(width, bits & ones(width))
+}
+
+/// A signed number modulo 2^width.
+pub(crate) fn modulo(width: u32, number: i64) -> Int
+    requires { IsWidth width }
+    ensures { result ≡ modulo width number }
+{
+    low(width, number.cast_unsigned())
+}
+
+/// Whether an unsigned number fits the width.
+pub(crate) fn fits_unsigned(width: u32, number: u128) -> bool
+    requires { IsWidth width }
+    ensures { result ≡ fits_unsigned width (pos number) }
+{
+    number <= ones(width) as u128
+}
+
+/// Whether a signed number fits the width.
+pub(crate) fn fits_signed(width: u32, number: i128) -> bool
+    requires { IsWidth width }
+    ensures { result ≡ fits_signed width number }
+{
+    let half = top(width) as i128;
+    -half <= number && number < half
 }

@@ -1,7 +1,6 @@
-use Rattle.std.proofs.Common.{ℕ, ◌+◌, ◌-◌, ◌*◌, ◌<◌, ◌≤◌, ◌≡◌, ◌^◌, arith, rules}
+use Rattle.std.proofs.Common.{arith}
 use Rattle.std.proofs.lemmas.Int.{ints}
 use Rattle.std.proofs.lemmas.Bool.Decides.{nat_tests}
-use Rattle.int_num.specs.Integer.{IsWidth, IsInteger, signed}
 use Rattle.int_num.proofs.Powers.{Powers, powers}
 use Rattle.int_num.proofs.sign.signed.Goals as goal
 
