@@ -1,1 +1,4 @@
 pub mod Rules
+pub mod Table
+pub mod Trees
+pub mod Naming

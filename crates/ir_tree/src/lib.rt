@@ -3,4 +3,6 @@
 
 pub mod checked;
 pub mod names;
+pub mod nodes;
+pub mod table;
 pub mod tree;

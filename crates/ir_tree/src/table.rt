@@ -1,0 +1,123 @@
+//! Names, types and constants, numbered in order of appearance.
+ghost use Rattle.std.specs.Prelude.{◌≡◌, ℕ, ◌<◌, ◌++◌, ◌∷◌, Some, IfOk, OnOk, OnErr, slice_get, option_copied, length, All};
+ghost use Rattle.ir_tree.specs.Table.{Table};
+ghost use Rattle.ir_tree.specs.Trees.{IntV, PtrV, VoidV, ArrayV, StructV, NamedV};
+ghost use Rattle.ir_tree.specs.Trees.{IntegerC, NullC, ZeroC, TextC, ArrayC, StructC, NameC, AddressC};
+ghost use Rattle.ir_tree.specs.Naming.{Grows, Shows, ShowsConstant, ElementsWithin, type_at, types_at, constant_at, elements_at, with_name};
+
+use crate::nodes::{ConstantId, ConstantNode, Element, NameId, TypeId, TypeNode};
+use indexmap::IndexSet;
+use int_num::int::Int;
+use pv_base::bytes::Bytes;
+use pv_base::list::List;
+use pv_base::name::Name;
+use pv_base::want::Memory;
+use std::alloc::Global;
+use std::marker::Model;
+
+/// How many numbers a list has.
+const NUMBERS: usize = 4294967296;
+
+/// The names, types and constants of a module. Each call that adds one answers its number, and `Memory` where memory or
+/// the 2^32 numbers are used up; the table is then unchanged.
+#[derive(Drop)]
+pub struct Names {
+    names: IndexSet<Name>,
+    types: List<TypeNode>,
+    constants: List<ConstantNode>,
+}
+
+impl Model for Names {
+    ghost use Rattle.ir_tree.specs.Table.{Table};
+
+    ghost Value = { Table };
+
+    ghost view = { λ n. record { names = n.names.keys; types = n.types; constants = n.constants } };
+}
+
+impl Names {
+    ghost use Rattle.std.specs.Prelude.{[]};
+
+    pub fn new(alloc: Global) -> Names
+        ensures { result ≡ record { names = []; types = []; constants = [] } }
+    {
+        Names {
+            names: IndexSet::new(alloc),
+            types: List::new(alloc),
+            constants: List::new(alloc),
+        }
+    }
+
+    /// The number of a name, a new one where it has none.
+    pub fn number(&mut self, name: Name) -> Result<NameId, Memory>
+        ensures known { IfOk result (λ k. slice_get self.new.names k ≡ Some name) }
+        ensures only { IfOk result (λ k. (j : ℕ) → slice_get self.new.names j ≡ Some name → j ≡ k) }
+        ensures table { OnOk result (self.new ≡ record self.old { names = with_name self.old.names name }) }
+        ensures grows { Grows self.old self.new }
+        ensures err { OnErr result (self.new ≡ self.old) }
+    {
+        if self.names.len() >= NUMBERS {
+            return Err(Memory);
+        }
+        match self.names.insert_full(name) {
+            Ok((number, _)) => Ok(number as u32),
+            Err(_) => Err(Memory),
+        }
+    }
+
+    pub fn name(&self, number: NameId) -> Option<&Name>
+        ensures { option_copied result ≡ slice_get self.now.names number }
+    {
+        self.names.get_index(number as usize)
+    }
+
+    pub fn type_node(&self, number: TypeId) -> Option<&TypeNode>
+        ensures { option_copied result ≡ slice_get self.now.types number }
+    {
+        self.types.as_slice().get(number as usize)
+    }
+
+    pub fn constant_node(&self, number: ConstantId) -> Option<&ConstantNode>
+        ensures { option_copied result ≡ slice_get self.now.constants number }
+    {
+        self.constants.as_slice().get(number as usize)
+    }
+
+    /// The number of a new type.
+    fn add_type(&mut self, node: TypeNode) -> Result<TypeId, Memory>
+        ensures known { IfOk result (λ k. slice_get self.new.types k ≡ Some node) }
+        ensures last { IfOk result (λ k. k ≡ length self.old.types) }
+        ensures within { IfOk result (λ k. k < length self.new.types) }
+        ensures table { OnOk result (self.new ≡ record self.old { types = self.old.types ++ node ∷ [] }) }
+        ensures grows { Grows self.old self.new }
+        ensures err { OnErr result (self.new ≡ self.old) }
+    {
+        let number = self.types.len();
+        if number >= NUMBERS {
+            return Err(Memory);
+        }
+        match self.types.push(node) {
+            Ok(()) => Ok(number as u32),
+            Err(_) => Err(Memory),
+        }
+    }
+
+    /// The number of a new constant.
+    fn add_constant(&mut self, node: ConstantNode) -> Result<ConstantId, Memory>
+        ensures known { IfOk result (λ k. slice_get self.new.constants k ≡ Some node) }
+        ensures last { IfOk result (λ k. k ≡ length self.old.constants) }
+        ensures within { IfOk result (λ k. k < length self.new.constants) }
+        ensures table { OnOk result (self.new ≡ record self.old { constants = self.old.constants ++ node ∷ [] }) }
+        ensures grows { Grows self.old self.new }
+        ensures err { OnErr result (self.new ≡ self.old) }
+    {
+        let number = self.constants.len();
+        if number >= NUMBERS {
+            return Err(Memory);
+        }
+        match self.constants.push(node) {
+            Ok(()) => Ok(number as u32),
+            Err(_) => Err(Memory),
+        }
+    }
+}
