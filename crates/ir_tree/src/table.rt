@@ -3,7 +3,7 @@ ghost use Rattle.std.specs.Prelude.{◌≡◌, ℕ, ◌<◌, ◌++◌, ◌∷◌
 ghost use Rattle.ir_tree.specs.Table.{Table};
 ghost use Rattle.ir_tree.specs.Trees.{IntV, PtrV, VoidV, ArrayV, StructV, NamedV};
 ghost use Rattle.ir_tree.specs.Trees.{IntegerC, NullC, ZeroC, TextC, ArrayC, StructC, NameC, AddressC};
-ghost use Rattle.ir_tree.specs.Naming.{Grows, Shows, ShowsConstant, ElementsWithin, type_at, types_at, constant_at, elements_at, with_name};
+ghost use Rattle.ir_tree.specs.Naming.{Grows, Shows, ShowsConstant, ElementsWithin, type_at, types_at, constant_at, elements_at, name_at, with_name};
 
 use crate::nodes::{ConstantId, ConstantNode, Element, NameId, TypeId, TypeNode};
 use indexmap::IndexSet;
@@ -59,10 +59,11 @@ impl Names {
         if self.names.len() >= NUMBERS {
             return Err(Memory);
         }
-        match self.names.insert_full(name) {
-            Ok((number, _)) => Ok(number as u32),
-            Err(_) => Err(Memory),
-        }
+        let number = match self.names.insert_full(name) {
+            Ok((number, _)) => number,
+            Err(_) => return Err(Memory),
+        };
+        Ok(number as u32)
     }
 
     pub fn name(&self, number: NameId) -> Option<&Name>
@@ -119,5 +120,140 @@ impl Names {
             Ok(()) => Ok(number as u32),
             Err(_) => Err(Memory),
         }
+    }
+
+    /// `iN`
+    pub fn int(&mut self, width: u32) -> Result<TypeId, Memory>
+        ensures shows { IfOk result (λ k. Shows self.new k (λ later. IntV width)) }
+        ensures grows { Grows self.old self.new }
+        ensures err { OnErr result (self.new ≡ self.old) }
+    {
+        self.add_type(TypeNode::Int(width))
+    }
+
+    /// `ptr`
+    pub fn pointer(&mut self) -> Result<TypeId, Memory>
+        ensures shows { IfOk result (λ k. Shows self.new k (λ later. PtrV)) }
+        ensures grows { Grows self.old self.new }
+        ensures err { OnErr result (self.new ≡ self.old) }
+    {
+        self.add_type(TypeNode::Ptr)
+    }
+
+    /// `void`
+    pub fn void(&mut self) -> Result<TypeId, Memory>
+        ensures shows { IfOk result (λ k. Shows self.new k (λ later. VoidV)) }
+        ensures grows { Grows self.old self.new }
+        ensures err { OnErr result (self.new ≡ self.old) }
+    {
+        self.add_type(TypeNode::Void)
+    }
+
+    /// `[count x of]`
+    pub fn array(&mut self, count: u128, of: TypeId) -> Result<TypeId, Memory>
+        requires { of < length self.old.types }
+        ensures shows { IfOk result (λ k. Shows self.new k (λ later. ArrayV count (type_at later of))) }
+        ensures grows { Grows self.old self.new }
+        ensures err { OnErr result (self.new ≡ self.old) }
+    {
+        self.add_type(TypeNode::Array { count, of })
+    }
+
+    /// `{ T, .. }`, or the packed `<{ T, .. }>`
+    pub fn structure(&mut self, packed: bool, fields: List<TypeId>) -> Result<TypeId, Memory>
+        requires { All (λ k. k < length self.old.types) fields }
+        ensures shows { IfOk result (λ k. Shows self.new k (λ later. StructV packed (types_at later fields))) }
+        ensures grows { Grows self.old self.new }
+        ensures err { OnErr result (self.new ≡ self.old) }
+    {
+        self.add_type(TypeNode::Struct { packed, fields })
+    }
+
+    /// `%name`, by the name's number
+    pub fn named(&mut self, name: NameId) -> Result<TypeId, Memory>
+        requires { name < length self.old.names }
+        ensures shows { IfOk result (λ k. Shows self.new k (λ later. NamedV (name_at later name))) }
+        ensures grows { Grows self.old self.new }
+        ensures err { OnErr result (self.new ≡ self.old) }
+    {
+        self.add_type(TypeNode::Named(name))
+    }
+
+    /// An integer of a width, `true` and `false` among them
+    pub fn integer(&mut self, value: Int) -> Result<ConstantId, Memory>
+        ensures shows { IfOk result (λ k. ShowsConstant self.new k (λ later. IntegerC value)) }
+        ensures grows { Grows self.old self.new }
+        ensures err { OnErr result (self.new ≡ self.old) }
+    {
+        self.add_constant(ConstantNode::Integer(value))
+    }
+
+    /// `null`
+    pub fn null(&mut self) -> Result<ConstantId, Memory>
+        ensures shows { IfOk result (λ k. ShowsConstant self.new k (λ later. NullC)) }
+        ensures grows { Grows self.old self.new }
+        ensures err { OnErr result (self.new ≡ self.old) }
+    {
+        self.add_constant(ConstantNode::Null)
+    }
+
+    /// `zeroinitializer`
+    pub fn zero(&mut self) -> Result<ConstantId, Memory>
+        ensures shows { IfOk result (λ k. ShowsConstant self.new k (λ later. ZeroC)) }
+        ensures grows { Grows self.old self.new }
+        ensures err { OnErr result (self.new ≡ self.old) }
+    {
+        self.add_constant(ConstantNode::Zero)
+    }
+
+    /// `c".."`, by its bytes
+    pub fn text(&mut self, bytes: Bytes) -> Result<ConstantId, Memory>
+        ensures shows { IfOk result (λ k. ShowsConstant self.new k (λ later. TextC bytes)) }
+        ensures grows { Grows self.old self.new }
+        ensures err { OnErr result (self.new ≡ self.old) }
+    {
+        self.add_constant(ConstantNode::Text(bytes))
+    }
+
+    /// `[ T c, .. ]`
+    pub fn array_of(&mut self, elements: List<Element>) -> Result<ConstantId, Memory>
+        requires { ElementsWithin self.old elements }
+        ensures shows { IfOk result (λ k. ShowsConstant self.new k (λ later. ArrayC (elements_at later elements))) }
+        ensures grows { Grows self.old self.new }
+        ensures err { OnErr result (self.new ≡ self.old) }
+    {
+        self.add_constant(ConstantNode::Array(elements))
+    }
+
+    /// `{ T c, .. }`, or the packed `<{ T c, .. }>`
+    pub fn structure_of(&mut self, packed: bool, fields: List<Element>) -> Result<ConstantId, Memory>
+        requires { ElementsWithin self.old fields }
+        ensures shows { IfOk result (λ k. ShowsConstant self.new k (λ later. StructC packed (elements_at later fields))) }
+        ensures grows { Grows self.old self.new }
+        ensures err { OnErr result (self.new ≡ self.old) }
+    {
+        self.add_constant(ConstantNode::Struct { packed, fields })
+    }
+
+    /// `@name`, by the name's number
+    pub fn name_of(&mut self, name: NameId) -> Result<ConstantId, Memory>
+        requires { name < length self.old.names }
+        ensures shows { IfOk result (λ k. ShowsConstant self.new k (λ later. NameC (name_at later name))) }
+        ensures grows { Grows self.old self.new }
+        ensures err { OnErr result (self.new ≡ self.old) }
+    {
+        self.add_constant(ConstantNode::Name(name))
+    }
+
+    /// `getelementptr (of, ptr base, iN index, ..)`
+    pub fn address(&mut self, of: TypeId, base: ConstantId, indices: List<Element>) -> Result<ConstantId, Memory>
+        requires of { of < length self.old.types }
+        requires base { base < length self.old.constants }
+        requires indices { ElementsWithin self.old indices }
+        ensures shows { IfOk result (λ k. ShowsConstant self.new k (λ later. AddressC (type_at later of) (constant_at later base) (elements_at later indices))) }
+        ensures grows { Grows self.old self.new }
+        ensures err { OnErr result (self.new ≡ self.old) }
+    {
+        self.add_constant(ConstantNode::Address { of, base, indices })
     }
 }
