@@ -2,6 +2,8 @@
 #![tactic(auto)]
 
 pub mod checked;
+pub mod instruction;
+pub mod items;
 pub mod names;
 pub mod nodes;
 pub mod table;
