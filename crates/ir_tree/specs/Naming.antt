@@ -1,9 +1,7 @@
 -- What the numbers of a table stand for, as more is added to it.
-use Rattle.std.specs.Prelude.{◌≡◌, ◌<◌, Bool, false, nat_eq, length, ℕ, List, [], ◌∷◌, ◌++◌, Some, slice_get, slice_index_or, map, All, if◌then◌else◌}
-use Rattle.std.specs.List.{list_any}
-use Rattle.std.specs.Cmp.Lexicographic.{pointwise}
+use Rattle.std.specs.Prelude.{◌≡◌, ◌<◌, length, ℕ, List, [], ◌∷◌, ◌++◌, Some, slice_get, slice_index_or, map, All}
 use Rattle.pv_base.specs.declared.name.Name.{Name}
-use Rattle.pv_base.specs.declared.name.Name.TheVariants.{Named, Numbered}
+use Rattle.pv_base.specs.declared.name.Name.TheVariants.{Numbered}
 use Rattle.ir_tree.specs.declared.nodes.TypeNode.{TypeNode}
 use Rattle.ir_tree.specs.declared.nodes.TypeNode.TheVariants as node
 use Rattle.ir_tree.specs.declared.nodes.Element.{Element}
@@ -19,20 +17,6 @@ meanings step none before [] = []
 meanings step none before (n ∷ ns) =
     let first = step (λ k. slice_index_or before k none) n in
     first ∷ meanings step none (before ++ first ∷ []) ns
-
--- the same spelling
-abbrev pub same_name : Name → Name → Bool
-same_name (Named a) (Named b) = pointwise nat_eq a b
-same_name (Numbered a) (Numbered b) = nat_eq a b
-same_name a b = false
-
--- whether the name is one of these
-abbrev pub name_among : Name → List Name → Bool
-name_among name names = list_any (same_name name) names
-
--- the names with this one, which stands last where it is new
-abbrev pub with_name : List Name → Name → List Name
-with_name names name = if name_among name names then names else names ++ name ∷ []
 
 abbrev pub name_at : Table → ℕ → Name
 name_at t k = slice_index_or t.names k (Numbered 0)

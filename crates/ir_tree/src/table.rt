@@ -1,9 +1,9 @@
 //! Names, types and constants, numbered in order of appearance.
 ghost use Rattle.std.specs.Prelude.{◌≡◌, ℕ, ◌<◌, ◌++◌, ◌∷◌, Some, IfOk, OnOk, OnErr, slice_get, option_copied, length, All};
-ghost use Rattle.ir_tree.specs.Table.{Table};
+ghost use Rattle.ir_tree.specs.Table.{Table, TypeWithin, IsTable, with_name};
 ghost use Rattle.ir_tree.specs.Trees.{IntV, PtrV, VoidV, ArrayV, StructV, NamedV};
 ghost use Rattle.ir_tree.specs.Trees.{IntegerC, NullC, ZeroC, TextC, ArrayC, StructC, NameC, AddressC};
-ghost use Rattle.ir_tree.specs.Naming.{Grows, Shows, ShowsConstant, ElementsWithin, type_at, types_at, constant_at, elements_at, name_at, with_name};
+ghost use Rattle.ir_tree.specs.Naming.{Grows, Shows, ShowsConstant, ElementsWithin, type_at, types_at, constant_at, elements_at, name_at};
 
 use crate::nodes::{ConstantId, ConstantNode, Element, NameId, TypeId, TypeNode};
 use indexmap::IndexSet;
@@ -28,11 +28,13 @@ pub struct Names {
 }
 
 impl Model for Names {
-    ghost use Rattle.ir_tree.specs.Table.{Table};
+    ghost use Rattle.ir_tree.specs.Table.{Table, IsTable};
 
     ghost Value = { Table };
 
     ghost view = { λ n. record { names = n.names.keys; types = n.types; constants = n.constants } };
+
+    ghost invariant = { λ n. IsTable (record { names = n.names.keys; types = n.types; constants = n.constants }) };
 }
 
 impl Names {
@@ -66,6 +68,13 @@ impl Names {
         Ok(number as u32)
     }
 
+    /// No name has two numbers, and what stands in a type has a smaller number.
+    pub fn is_table(&self)
+        ensures { IsTable self.now }
+    {
+        let _ = &self.names;
+    }
+
     pub fn name(&self, number: NameId) -> Option<&Name>
         ensures { option_copied result ≡ slice_get self.now.names number }
     {
@@ -86,6 +95,7 @@ impl Names {
 
     /// The number of a new type.
     fn add_type(&mut self, node: TypeNode) -> Result<TypeId, Memory>
+        requires { TypeWithin (length self.old.names) (length self.old.types) node }
         ensures known { IfOk result (λ k. slice_get self.new.types k ≡ Some node) }
         ensures last { IfOk result (λ k. k ≡ length self.old.types) }
         ensures within { IfOk result (λ k. k < length self.new.types) }
