@@ -3,3 +3,6 @@ pub mod Table
 pub mod Trees
 pub mod Naming
 pub mod Shown
+pub mod Layouts
+pub mod Bounds
+pub mod Filling

@@ -4,6 +4,8 @@
 pub mod checked;
 pub mod instruction;
 pub mod items;
+pub mod layout;
+pub mod layouts;
 pub mod names;
 pub mod nodes;
 pub mod table;
