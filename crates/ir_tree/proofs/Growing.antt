@@ -37,6 +37,12 @@ pub upto_then : (a b c : Option Layout) → Upto a b → Upto b c → Upto a c
 unfolding Upto
 upto_then a b c p q l e = q l (p l e)
 
+pub upto_both : (a b : Option Layout) → Upto a b → Upto b a → b ≡ a
+unfolding Upto
+upto_both None None p q = refl
+upto_both None (Some l) p q = sym (q l refl)
+upto_both (Some l) b p q = p l refl
+
 then_mono : (f : Layout → Option Layout) (a b : Option Layout) → Upto a b → Upto (option_and_then f a) (option_and_then f b)
 unfolding Upto
 then_mono f None b h l e = absurd cc

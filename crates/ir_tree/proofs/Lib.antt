@@ -4,3 +4,6 @@ pub mod Tables
 pub mod Bounded
 pub mod Folding
 pub mod Growing
+pub mod Filled
+pub mod Steps
+pub mod Bodies

@@ -1,5 +1,5 @@
 -- A table stays one.
-use Rattle.std.proofs.Common.{◌≡◌, ℕ, zero, suc, ◌<◌, ◌≤◌, Bool, true, false, List, [], ◌∷◌, ◌++◌, length, slice_get, Some, refl, sym, ap, ◌∙◌, arith, All, rules, length-append}
+use Rattle.std.proofs.Common.{◌≡◌, ℕ, zero, suc, ◌<◌, ◌≤◌, ◌^◌, ◌+◌, Bool, true, false, List, [], ◌∷◌, ◌++◌, length, slice_get, Some, refl, sym, ap, ◌∙◌, arith, All, rules, length-append}
 use Rattle.std.specs.Prelude.{if◌then◌else◌}
 use Rattle.std.specs.List.{AllByRecursion, IsDistinct}
 use Rattle.pv_base.specs.declared.name.Name.TheVariants.{Named, Numbered}
@@ -23,6 +23,7 @@ pub table_named : (t : Table) (names : List Name) → IsTable t → IsDistinct s
 table_named t names is distinct more = record {
   distinct = distinct;
   types = λ k n e. within_more (length t.names) (length names) k n more (is.types k n e);
+  count = is.count;
 }
 
 -- an item of a list with one more is one of the list, or the last
@@ -32,14 +33,15 @@ item_of_push [] x y (suc k) P all last e = absurd cc
 item_of_push (z ∷ xs) x y zero P all last e = all zero y e
 item_of_push (z ∷ xs) x y (suc k) P all last e = item_of_push xs x y k (λ j. P (suc j)) (λ j w h. all (suc j) w h) last e
 
-pub table_typed : (t : Table) (n : TypeNode) → IsTable t → TypeWithin (length t.names) (length t.types) n → IsTable (record { names = t.names; types = t.types ++ n ∷ []; constants = t.constants })
-table_typed t n is within = record {
+pub table_typed : (t : Table) (n : TypeNode) → IsTable t → TypeWithin (length t.names) (length t.types) n → length t.types < 2 ^ 32 → IsTable (record { names = t.names; types = t.types ++ n ∷ []; constants = t.constants })
+table_typed t n is within lt = record {
   distinct = is.distinct;
   types = λ k m e. item_of_push t.types n m k (TypeWithin (length t.names)) is.types within e;
+  count = omega (arith, length-append t.types (n ∷ []));
 }
 
 pub table_valued : (t : Table) (constants : List ConstantNode) → IsTable t → IsTable (record { names = t.names; types = t.types; constants = constants })
-table_valued t constants is = record { distinct = is.distinct; types = is.types }
+table_valued t constants is = record { distinct = is.distinct; types = is.types; count = is.count }
 
 stays : {X : Type 0} (xs ys : List X) (k : ℕ) (x : X) → slice_get xs k ≡ Some x → slice_get (xs ++ ys) k ≡ Some x
 stays [] ys k x e = absurd cc

@@ -1,5 +1,5 @@
 -- Layouts by number, as they are found.
-use Rattle.std.specs.Prelude.{◌≡◌, ◌<◌, ℕ, nat_eq, if◌then◌else◌, List, [], ◌∷◌, length, map, Option, Some, None, IsSome, IfSome, IfNone, option_and_then, option_map, slice_get, slice_index_or, slice_set, Bool, true, false, All}
+use Rattle.std.specs.Prelude.{◌≡◌, ◌<◌, ◌+◌, ℕ, nat_eq, if◌then◌else◌, List, [], ◌∷◌, length, map, Option, Some, None, IsSome, IfSome, IfNone, option_and_then, option_map, slice_get, slice_index_or, slice_set, Bool, true, false, All}
 use Rattle.pv_base.specs.declared.name.Name.{Name}
 use Rattle.ir_tree.specs.declared.layout.Layout.{Layout}
 use Rattle.ir_tree.specs.declared.items.NamedType.{NamedType}
@@ -73,3 +73,33 @@ Tries t bodies old new k false = (new ≡ old) × IsDone t bodies old k
 -- each layout that was found is that of its type
 abbrev pub AreLayouts : Table → List (NamedType ℕ ℕ) → List (Option Layout) → Type 0
 AreLayouts t ns answers = (k : ℕ) → k < length t.types → answer_at answers k ≡ layout_of (named_types t ns) (type_at t k)
+
+-- layouts that are found one after another
+pub data Reaches (t : Table) (bodies : List (Option ℕ)) (a : List (Option Layout)) : List (Option Layout) → Type 0 where
+  Stays : Reaches t bodies a a
+  Further : {b c : List (Option Layout)} {k : ℕ} → Reaches t bodies a b → Finds t bodies b c k → Reaches t bodies a c
+
+-- how many layouts are not found
+abbrev pub missing : List (Option Layout) → ℕ
+missing [] = 0
+missing (None ∷ answers) = 1 + missing answers
+missing (Some l ∷ answers) = missing answers
+
+-- how a pass over the numbers below one has gone: it found a layout, or none is to be found there
+abbrev pub PassEnds : Table → List (Option ℕ) → List (Option Layout) → List (Option Layout) → ℕ → Bool → Type 0
+PassEnds t bodies old new count true = missing new < missing old
+PassEnds t bodies old new count false = (new ≡ old) × ((k : ℕ) → k < count → IsDone t bodies old k)
+
+-- a pass over the numbers below one
+pub record Passes (t : Table) (bodies : List (Option ℕ)) (old new : List (Option Layout)) (count : ℕ) (found : Bool) : Type 0 where
+  pub reaches : Reaches t bodies old new
+  pub len : length new ≡ length old
+  pub bounded : AreBounded new
+  pub ends : PassEnds t bodies old new count found
+
+-- layouts are found until no more are to be found
+pub record Settles (t : Table) (bodies : List (Option ℕ)) (old new : List (Option Layout)) : Type 0 where
+  pub reaches : Reaches t bodies old new
+  pub len : length new ≡ length old
+  pub bounded : AreBounded new
+  pub done : (k : ℕ) → k < length new → IsDone t bodies new k

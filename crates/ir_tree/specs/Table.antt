@@ -1,5 +1,5 @@
 -- Names, types and constants by their numbers.
-use Rattle.std.specs.Prelude.{◌≡◌, ◌<◌, ℕ, Bool, false, nat_eq, List, ◌∷◌, [], ◌++◌, All, length, Some, slice_get, if◌then◌else◌}
+use Rattle.std.specs.Prelude.{◌≡◌, ◌<◌, ◌≤◌, ◌^◌, ℕ, Bool, false, nat_eq, List, ◌∷◌, [], ◌++◌, All, length, Some, slice_get, if◌then◌else◌}
 use Rattle.std.specs.List.{list_any, IsDistinct}
 use Rattle.std.specs.Cmp.Lexicographic.{pointwise}
 use Rattle.pv_base.specs.declared.name.Name.{Name}
@@ -34,7 +34,8 @@ TypeWithin names k (node.Struct packed fields) = All (λ j. j < k) fields
 TypeWithin names k (node.Named name) = name < names
 TypeWithin names k n = Unit {0}
 
--- no name has two numbers, and types are of smaller ones
+-- no name has two numbers, types are of smaller ones, and a number has 32 bits
 pub record IsTable (t : Table) : Type 0 where
   pub distinct : IsDistinct same_name t.names
   pub types : (k : ℕ) (n : TypeNode) → slice_get t.types k ≡ Some n → TypeWithin (length t.names) k n
+  pub count : length t.types ≤ 2 ^ 32

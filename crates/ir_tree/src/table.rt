@@ -75,6 +75,20 @@ impl Names {
         let _ = &self.names;
     }
 
+    /// How many names there are.
+    pub fn name_count(&self) -> usize
+        ensures { result ≡ length self.now.names }
+    {
+        self.names.len()
+    }
+
+    /// How many types there are.
+    pub fn type_count(&self) -> usize
+        ensures { result ≡ length self.now.types }
+    {
+        self.types.len()
+    }
+
     pub fn name(&self, number: NameId) -> Option<&Name>
         ensures { option_copied result ≡ slice_get self.now.names number }
     {
