@@ -6,3 +6,4 @@ pub mod Shown
 pub mod Layouts
 pub mod Bounds
 pub mod Filling
+pub mod Modules

@@ -10,3 +10,4 @@ pub mod names;
 pub mod nodes;
 pub mod table;
 pub mod tree;
+pub mod whole;
