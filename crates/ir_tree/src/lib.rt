@@ -2,5 +2,12 @@
 #![tactic(auto)]
 
 pub mod checked;
+pub mod instruction;
+pub mod items;
+pub mod layout;
+pub mod layouts;
 pub mod names;
+pub mod nodes;
+pub mod table;
 pub mod tree;
+pub mod whole;

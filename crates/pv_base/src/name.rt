@@ -7,7 +7,7 @@ use std::alloc::AllocError;
 
 /// A name: its bytes, without sign and quotes, or the number of an unnamed value. `%5` is `Numbered(5)`, and `%"5"` is
 /// `Named` with the byte `5`: two names.
-#[derive(Debug, Drop)]
+#[derive(Debug, Drop, PartialEq, Eq, Hash)]
 pub enum Name {
     Named(Bytes),
     Numbered(u64),

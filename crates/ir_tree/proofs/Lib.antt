@@ -1,0 +1,9 @@
+pub mod Places
+pub mod Showing
+pub mod Tables
+pub mod Bounded
+pub mod Folding
+pub mod Growing
+pub mod Filled
+pub mod Steps
+pub mod Bodies

@@ -1,0 +1,84 @@
+-- A table stays one.
+use Rattle.std.proofs.Common.{◌≡◌, ℕ, zero, suc, ◌<◌, ◌≤◌, ◌^◌, ◌+◌, Bool, true, false, List, [], ◌∷◌, ◌++◌, length, slice_get, Some, refl, sym, ap, ◌∙◌, arith, All, rules, length-append}
+use Rattle.std.specs.Prelude.{if◌then◌else◌}
+use Rattle.std.specs.List.{AllByRecursion, IsDistinct}
+use Rattle.pv_base.specs.declared.name.Name.TheVariants.{Named, Numbered}
+use Rattle.pv_base.specs.contracts.name.NamePartialEq.TheImpl.{eq-value}
+use Rattle.pv_base.specs.declared.name.Name.{Name}
+use Rattle.ir_tree.specs.declared.nodes.TypeNode.{TypeNode}
+use Rattle.ir_tree.specs.declared.nodes.TypeNode.TheVariants as node
+use Rattle.ir_tree.specs.declared.nodes.ConstantNode.{ConstantNode}
+use Rattle.ir_tree.specs.Table.{Table, IsTable, TypeWithin, same_name, with_name, name_among}
+use Rattle.ir_tree.specs.Naming.{Grows}
+
+within_more : (a b k : ℕ) (n : TypeNode) → a ≤ b → TypeWithin a k n → TypeWithin b k n
+within_more a b k (node.Int w) le h = tt
+within_more a b k node.Ptr le h = tt
+within_more a b k node.Void le h = tt
+within_more a b k (node.Array n of) le h = h
+within_more a b k (node.Struct packed fields) le h = h
+within_more a b k (node.Named name) le h = omega arith
+
+pub table_named : (t : Table) (names : List Name) → IsTable t → IsDistinct same_name names → length t.names ≤ length names → IsTable (record { names = names; types = t.types; constants = t.constants })
+table_named t names is distinct more = record {
+  distinct = distinct;
+  types = λ k n e. within_more (length t.names) (length names) k n more (is.types k n e);
+  count = is.count;
+}
+
+-- an item of a list with one more is one of the list, or the last
+pub item_of_push : {X : Type 0} (xs : List X) (x y : X) (k : ℕ) (P : ℕ → X → Type 0) → ((j : ℕ) (z : X) → slice_get xs j ≡ Some z → P j z) → P (length xs) x → slice_get (xs ++ x ∷ []) k ≡ Some y → P k y
+item_of_push [] x y zero P all last e = let same : x ≡ y = cc in rw (← same) last
+item_of_push [] x y (suc k) P all last e = absurd cc
+item_of_push (z ∷ xs) x y zero P all last e = all zero y e
+item_of_push (z ∷ xs) x y (suc k) P all last e = item_of_push xs x y k (λ j. P (suc j)) (λ j w h. all (suc j) w h) last e
+
+pub table_typed : (t : Table) (n : TypeNode) → IsTable t → TypeWithin (length t.names) (length t.types) n → length t.types < 2 ^ 32 → IsTable (record { names = t.names; types = t.types ++ n ∷ []; constants = t.constants })
+table_typed t n is within lt = record {
+  distinct = is.distinct;
+  types = λ k m e. item_of_push t.types n m k (TypeWithin (length t.names)) is.types within e;
+  count = omega (arith, length-append t.types (n ∷ []));
+}
+
+pub table_valued : (t : Table) (constants : List ConstantNode) → IsTable t → IsTable (record { names = t.names; types = t.types; constants = constants })
+table_valued t constants is = record { distinct = is.distinct; types = is.types; count = is.count }
+
+stays : {X : Type 0} (xs ys : List X) (k : ℕ) (x : X) → slice_get xs k ≡ Some x → slice_get (xs ++ ys) k ≡ Some x
+stays [] ys k x e = absurd cc
+stays (y ∷ xs) ys zero x e = e
+stays (y ∷ xs) ys (suc k) x e = stays xs ys k x e
+
+longer_if : (names : List Name) (name : Name) (b : Bool) → length names ≤ length (if b then names else names ++ name ∷ [])
+longer_if names name true = omega arith
+longer_if names name false = omega (arith, length-append names (name ∷ []))
+
+stays_if : (names : List Name) (name : Name) (k : ℕ) (x : Name) (b : Bool) → slice_get names k ≡ Some x → slice_get (if b then names else names ++ name ∷ []) k ≡ Some x
+stays_if names name k x true e = e
+stays_if names name k x false e = stays names (name ∷ []) k x e
+
+pub longer : (names more : List Name) (name : Name) (b : Bool) → more ≡ (if b then names else names ++ name ∷ []) → length names ≤ length more
+longer names more name b e = rw e (longer_if names name b)
+
+pub names_grow : (names more : List Name) (types : List TypeNode) (constants : List ConstantNode) (name : Name) (b : Bool) → more ≡ (if b then names else names ++ name ∷ [])
+    → Grows (record { names = names; types = types; constants = constants }) (record { names = more; types = types; constants = constants })
+names_grow names more types constants name b e = record {
+  names = λ k x h. rw e (stays_if names name k x b h);
+  types = λ k x h. h;
+  constants = λ k x h. h;
+}
+
+-- the derived test of equal names
+pub spelled : (a b : Name) → eq-value.it a b ≡ same_name a b
+spelled (Named a) (Named b) = refl
+spelled (Numbered a) (Numbered b) = refl
+spelled (Named a) (Numbered b) = refl
+spelled (Numbered a) (Named b) = refl
+
+all_spelled : (x : Name) (names : List Name) → AllByRecursion (λ z. eq-value.it x z ≡ false) names → AllByRecursion (λ z. same_name x z ≡ false) names
+all_spelled x [] all = tt
+all_spelled x (y ∷ ys) all = (sym (spelled x y) ∙ all.0, all_spelled x ys all.1)
+
+pub distinct_spelled : (names : List Name) → IsDistinct eq-value.it names → IsDistinct same_name names
+unfolding IsDistinct
+distinct_spelled [] distinct = tt
+distinct_spelled (x ∷ xs) distinct = (all_spelled x xs distinct.0, distinct_spelled xs distinct.1)

@@ -1,0 +1,97 @@
+//! A module: its names, types and items, with what is found once of them.
+ghost use Rattle.std.specs.Prelude.{◌≡◌, ◌<◌, length, All, IfOk};
+ghost use Rattle.ir_tree.specs.Filling.{NamedWithin};
+ghost use Rattle.ir_tree.specs.Modules.{layout_in};
+
+use crate::items::{Function, Global, NamedType};
+use crate::layout::Layout;
+use crate::layouts::Layouts;
+use crate::nodes::TypeId;
+use crate::table::Names;
+use pv_base::list::List;
+use pv_base::want::Memory;
+use std::alloc::Global as Allocator;
+use std::marker::Model;
+
+/// A module. Its lists are in text order, and the numbers in them are of its table.
+#[derive(Drop)]
+pub struct Module {
+    names: Names,
+    types: List<NamedType>,
+    globals: List<Global>,
+    functions: List<Function>,
+    layouts: Layouts,
+}
+
+impl Model for Module {
+    ghost use Rattle.ir_tree.specs.Filling.{AreLayouts};
+    ghost use Rattle.ir_tree.specs.Modules.{Items};
+
+    ghost Value = { Items };
+
+    ghost view = { λ m. record { names = m.names; types = m.types; globals = m.globals; functions = m.functions } };
+
+    ghost invariant = { λ m. AreLayouts m.names m.types m.layouts };
+}
+
+impl Module {
+    /// The module of these parts, with the layouts of its types, which take memory.
+    pub fn new(
+        alloc: Allocator,
+        names: Names,
+        types: List<NamedType>,
+        globals: List<Global>,
+        functions: List<Function>,
+    ) -> Result<Module, Memory>
+        requires { All (NamedWithin names) types }
+        ensures { IfOk result (λ m. m ≡ record { names = names; types = types; globals = globals; functions = functions }) }
+    {
+        let layouts = Layouts::new(alloc, &names, types.as_slice())?;
+        Ok(Module {
+            names,
+            types,
+            globals,
+            functions,
+            layouts,
+        })
+    }
+
+    pub fn names(&self) -> &Names
+        ensures { result.now ≡ self.now.names }
+    {
+        &self.names
+    }
+
+    pub fn types(&self) -> &[NamedType]
+        ensures { result.now ≡ self.now.types }
+    {
+        self.types.as_slice()
+    }
+
+    pub fn globals(&self) -> &[Global]
+        ensures { result.now ≡ self.now.globals }
+    {
+        self.globals.as_slice()
+    }
+
+    pub fn functions(&self) -> &[Function]
+        ensures { result.now ≡ self.now.functions }
+    {
+        self.functions.as_slice()
+    }
+
+    fn layout(&self, of: TypeId) -> Option<Layout>
+        requires { of < length self.now.names.types }
+        ensures { result ≡ layout_in self.now of }
+    {
+        self.layouts.of(of)
+    }
+}
+
+/// The layout of a type; `None` where it has none. It takes no memory, and only looks up.
+pub fn layout(module: &Module, of: TypeId) -> Option<Layout>
+    requires { of < length module.now.names.types }
+    ensures { result ≡ layout_in module.now of }
+{
+    module.layout(of)
+}
