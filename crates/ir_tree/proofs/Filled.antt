@@ -112,7 +112,6 @@ unfolding found
 found_one [] at to x k l h body none some = absurd cc
 found_one (n ∷ ns) at to x k l h body none some = found_first n ns at to x k l h (nat_eq x n.name) body none some (λ b. found_one ns at to x k l h b none some)
 
-
 -- ---- what is found is right
 
 -- the parts that the search rests on
@@ -199,10 +198,10 @@ module _ (t : Table) (ns : List (NamedType ℕ ℕ)) (bodies : List (Option ℕ)
       → (k : ℕ) → k < length t.types → ((j : ℕ) → j < k → Upto (at_depth t ns f j) (answer_at answers j)) → (a : Option Layout) → answer_at answers k ≡ a → Upto (at_depth t ns f k) a
   complete_by answers sound done f names k within below (Some l) is =
       upto_by _ _ (λ m e.
-        let c = found ns (answer_at answers) in
-        let one : at_depth t ns (f + c) k ≡ Some m = upto_is _ _ (depth_later t ns f (f + c) k (omega arith)) m e in
-        let two : at_depth t ns (f + c) k ≡ Some l = upto_is _ _ (depth_later t ns c (f + c) k (omega arith)) l (upto_is _ _ (sound.numbers k) l is) in
-        sym two ∙ one)
+      let c = found ns (answer_at answers) in
+      let one : at_depth t ns (f + c) k ≡ Some m = upto_is _ _ (depth_later t ns f (f + c) k (omega arith)) m e in
+      let two : at_depth t ns (f + c) k ≡ Some l = upto_is _ _ (depth_later t ns c (f + c) k (omega arith)) l (upto_is _ _ (sound.numbers k) l is) in
+      sym two ∙ one)
   complete_by answers sound done f names k within below None is =
       let n = get_or t.types k node.Ptr in
       let known : slice_get t.types k ≡ Some n = slice_get-get_or t.types k node.Ptr within in
@@ -215,7 +214,6 @@ module _ (t : Table) (ns : List (NamedType ℕ ℕ)) (bodies : List (Option ℕ)
   complete_at answers sound done f names zero k lt within = absurd (omega arith)
   complete_at answers sound done f names (suc most) k lt within =
       complete_by answers sound done f names k within (λ j less. complete_at answers sound done f names most j (omega arith) (omega arith)) (answer_at answers k) refl
-
 
   named_by : (answers : List (Option Layout)) (f x : ℕ) → x < length t.names → ((k : ℕ) → k < length t.types → Upto (at_depth t ns f k) (answer_at answers k)) → (b : Option ℕ) → body_of ns x ≡ b
       → Upto (named_layout (suc f) (named_types t ns) (name_at t x)) (option_and_then (answer_at answers) b)
@@ -242,8 +240,8 @@ module _ (t : Table) (ns : List (NamedType ℕ ℕ)) (bodies : List (Option ℕ)
       let c = found ns (answer_at answers) in
       let most : c ≤ length (named_types t ns) = omega (arith, found_most ns (answer_at answers), length-map ns (shown_named t)) in
       upto_both (layout_of (named_types t ns) (type_at t k)) (answer_at answers k)
-        (complete answers sound done (length (named_types t ns)) k within)
-        (upto_then _ _ _ (sound.numbers k) (depth_later t ns c (length (named_types t ns)) k most))
+      (complete answers sound done (length (named_types t ns)) k within)
+      (upto_then _ _ _ (sound.numbers k) (depth_later t ns c (length (named_types t ns)) k most))
 
 -- ---- all in one
 

@@ -41,8 +41,8 @@ unfolding type_at Reads
 shows_at new k n type known within reads = record {
   within = within;
   from = λ later grows.
-    let at = meaning_from (type_of_node (name_at later)) PtrV [] later.types k n (grows.types k n known) in
-    at ∙ reads later (λ j. get_or (take k (meanings (type_of_node (name_at later)) PtrV [] later.types)) j PtrV) grows (λ j lt. get_or-take k (meanings (type_of_node (name_at later)) PtrV [] later.types) j PtrV lt);
+      let at = meaning_from (type_of_node (name_at later)) PtrV [] later.types k n (grows.types k n known) in
+      at ∙ reads later (λ j. get_or (take k (meanings (type_of_node (name_at later)) PtrV [] later.types)) j PtrV) grows (λ j lt. get_or-take k (meanings (type_of_node (name_at later)) PtrV [] later.types) j PtrV lt);
 }
 
 pub shows : (old new : Table) (r : Result ℕ Memory) (n : TypeNode) (type : Table → TypeV) → IfOk r (λ k. slice_get new.types k ≡ Some n) → IfOk r (λ k. k ≡ length old.types) → IfOk r (λ k. k < length new.types)
@@ -92,9 +92,9 @@ unfolding constant_at ReadsConstant
 constant_shows_at new k n value known within reads = record {
   within = within;
   from = λ later grows.
-    let all = meanings (constant_of_node (name_at later) (type_at later)) NullC [] later.constants in
-    let at = meaning_from (constant_of_node (name_at later) (type_at later)) NullC [] later.constants k n (grows.constants k n known) in
-    at ∙ reads later (λ j. get_or (take k all) j NullC) grows (λ j lt. get_or-take k all j NullC lt);
+      let all = meanings (constant_of_node (name_at later) (type_at later)) NullC [] later.constants in
+      let at = meaning_from (constant_of_node (name_at later) (type_at later)) NullC [] later.constants k n (grows.constants k n known) in
+      at ∙ reads later (λ j. get_or (take k all) j NullC) grows (λ j lt. get_or-take k all j NullC lt);
 }
 
 pub shows_constant : (old new : Table) (r : Result ℕ Memory) (n : ConstantNode) (value : Table → ConstantV) → IfOk r (λ k. slice_get new.constants k ≡ Some n) → IfOk r (λ k. k ≡ length old.constants) → IfOk r (λ k. k < length new.constants)

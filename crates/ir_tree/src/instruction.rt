@@ -63,7 +63,11 @@ pub enum Instruction<N = NameId, T = TypeId, C = ConstantId> {
         target: T,
     },
     /// `%r = freeze T A`
-    Freeze { to: N, of: T, value: Operand<N, C> },
+    Freeze {
+        to: N,
+        of: T,
+        value: Operand<N, C>,
+    },
     /// `%r = icmp P T A, B`
     Compare {
         to: N,
@@ -121,9 +125,13 @@ pub enum Instruction<N = NameId, T = TypeId, C = ConstantId> {
         arguments: List<Argument<N, T, C>>,
     },
     /// `ret T A`, `ret void`
-    Return { value: Option<Argument<N, T, C>> },
+    Return {
+        value: Option<Argument<N, T, C>>,
+    },
     /// `br label %b`
-    Jump { target: N },
+    Jump {
+        target: N,
+    },
     /// `br i1 C, label %a, label %b`
     Branch {
         condition: Operand<N, C>,

@@ -193,11 +193,7 @@ fn push_parts(
 
 /// The types in an order in which what stands in a type comes before it, where none holds itself. Only the speed rests on
 /// it: one pass in this order finds every layout, and a second sees that no more are to be found.
-fn order(
-    alloc: Global,
-    names: &Names,
-    bodies: &[Option<TypeId>],
-) -> Result<List<TypeId>, Memory> {
+fn order(alloc: Global, names: &Names, bodies: &[Option<TypeId>]) -> Result<List<TypeId>, Memory> {
     names.is_table();
     let count = names.type_count();
     let mut stack = List::new(alloc);

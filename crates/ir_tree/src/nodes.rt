@@ -52,7 +52,10 @@ pub enum ConstantNode {
     /// `[ T c, .. ]`
     Array(List<Element>),
     /// `{ T c, .. }`, or the packed `<{ T c, .. }>`
-    Struct { packed: bool, fields: List<Element> },
+    Struct {
+        packed: bool,
+        fields: List<Element>,
+    },
     /// `@name`, of a global or a function
     Name(NameId),
     /// `getelementptr (of, ptr base, iN index, ..)`

@@ -250,7 +250,11 @@ impl Names {
     }
 
     /// `{ T c, .. }`, or the packed `<{ T c, .. }>`
-    pub fn structure_of(&mut self, packed: bool, fields: List<Element>) -> Result<ConstantId, Memory>
+    pub fn structure_of(
+        &mut self,
+        packed: bool,
+        fields: List<Element>,
+    ) -> Result<ConstantId, Memory>
         requires { ElementsWithin self.old fields }
         ensures shows { IfOk result (λ k. ShowsConstant self.new k (λ later. StructC packed (elements_at later fields))) }
         ensures grows { Grows self.old self.new }
@@ -270,7 +274,12 @@ impl Names {
     }
 
     /// `getelementptr (of, ptr base, iN index, ..)`
-    pub fn address(&mut self, of: TypeId, base: ConstantId, indices: List<Element>) -> Result<ConstantId, Memory>
+    pub fn address(
+        &mut self,
+        of: TypeId,
+        base: ConstantId,
+        indices: List<Element>,
+    ) -> Result<ConstantId, Memory>
         requires of { of < length self.old.types }
         requires base { base < length self.old.constants }
         requires indices { ElementsWithin self.old indices }

@@ -18,8 +18,8 @@ returns-clause-only c = λ j is.
 pub invariant_of-self-2 : goal.invariant_of-self-2
 invariant_of-self-2 c =
     table_named (record { names = c.self.inside.names.keys; types = c.self.inside.types; constants = c.self.inside.constants }) c.insert_full.new.self.keys c.self.invariant
-        (distinct_spelled c.insert_full.new.self.keys c.insert_full.ensures.unique)
-        (longer c.self.inside.names.keys c.insert_full.new.self.keys c.args.name _ c.in-Ok.ensures.keys)
+    (distinct_spelled c.insert_full.new.self.keys c.insert_full.ensures.unique)
+    (longer c.self.inside.names.keys c.insert_full.new.self.keys c.args.name _ c.in-Ok.ensures.keys)
 
 pub returns-clause-grows : goal.returns-clause-grows
 returns-clause-grows c = rw (← c.self.view_is) (names_grow c.self.inside.names.keys c.insert_full.new.self.keys c.self.inside.types c.self.inside.constants c.args.name _ c.in-Ok.ensures.keys)
