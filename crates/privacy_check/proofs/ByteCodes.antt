@@ -66,3 +66,10 @@ reset_by last (s ∷ ss) b r small = rw (class_stamp (greatest_of (s ∷ ss)) (g
 reset_by last [] (x ∷ b) r small = refl
 reset_by last [] [] (x ∷ r) small = refl
 reset_by last [] [] [] small = refl
+
+-- no code is above the last stamp
+pub code_small : (last : ℕ) (w b r : List ℕ) → 3 ≤ last → Small last w → code_by w b r ≤ last
+code_small last (s ∷ ss) b r h small = greatest_small last (s ∷ ss) small
+code_small last [] (x ∷ b) r h small = omega arith
+code_small last [] [] (x ∷ r) h small = omega arith
+code_small last [] [] [] h small = omega arith

@@ -2,6 +2,7 @@
 use Rattle.std.proofs.Common.{◌≡◌, ℕ, ◌+◌, ◌<◌, ◌≤◌, ◌==◌, List, [], ◌∷◌, ◌++◌, length, length-take, length-drop, get_or, map, replicate, Option, Some, None, option_map, Bool, true, false, cond, Ok, refl, sym, ap, subst, ◌∙◌, arith, inl, inr}
 use Rattle.std.proofs.lemmas.Bool.{cases_eq, cases_lt}
 use Rattle.std.proofs.lemmas.List.{get_or-map, length-map, get_or-replicate, length-replicate}
+use Rattle.std.proofs.lemmas.List.Elements.{All-from_get_or}
 use Rattle.std.specs.Map.{lookup}
 use Rattle.std.specs.Result.{result_unwrap_or}
 use Rattle.shadow_codes.specs.Codes.{reset_code}
@@ -9,10 +10,10 @@ use Rattle.pv_base.specs.declared.place.Place.{Place}
 use Rattle.privacy_check.specs.declared.access.Access.{Access}
 use Rattle.privacy_check.specs.declared.access.Access.TheVariants.{Read, Write}
 use Rattle.privacy_check.specs.declared.access.BadCode.{BadCode}
-use Rattle.privacy_check.specs.Shadows.{Shadows, with_codes, next_code, first_bad, in_range, shadows_after, told, next_period, untouched}
+use Rattle.privacy_check.specs.Shadows.{Shadows, MayAccess, with_codes, next_code, first_bad, in_range, shadows_after, told, next_period, untouched}
 use Rattle.privacy_check.specs.History.{Call, Touch, EndPeriod, Turns, no_turns, covers, touched_by, turns_with, turns_after, code_of, refused, answer_by, InObject, Lawful, codes_after, after_calls, AllOk, StandsFor}
 use Rattle.privacy_check.proofs.Tables.{touch_told}
-use Rattle.privacy_check.proofs.ByteCodes.{Small, small_later, reset_by}
+use Rattle.privacy_check.proofs.ByteCodes.{Small, small_later, reset_by, code_small}
 use Rattle.privacy_check.proofs.RangeEdits.{mapped_range, inside, before, behind, range_at, length-mapped_range}
 use Rattle.privacy_check.proofs.Refusals.{CodesOf, bad_at, refused_is, told_is, all_may, next_is}
 
@@ -189,3 +190,24 @@ next_told sizes shadows turns access at len stamp to =
     let old = to.inv.least in
     let object = to.lawful.1 in
     told_next shadows (turns at.name) access at len stamp object.size (to.inv.stands at.name object.size object.known) object.within (omega arith) (λ o. small_later to.last stamp _ later (to.inv.small at.name o))
+
+-- the condition of that access
+pub next_may : (sizes : List (ℕ × ℕ)) (shadows : Shadows) (turns : ℕ → ℕ → Turns) (access : Access) (at : Place) (len stamp : ℕ) → Reached sizes shadows turns (Touch access at len stamp ∷ []) → MayAccess shadows at len stamp
+next_may sizes shadows turns access at len stamp to =
+    let later = to.lawful.0 in
+    let old = to.inv.least in
+    let object = to.lawful.1 in
+    let within = object.within in
+    let stands = to.inv.stands at.name object.size object.known in
+    let sized = stands.sized in
+    record {
+      codes = stands.codes;
+      known = stands.known;
+      within = omega arith;
+      stamps = All-from_get_or (λ c. c ≤ stamp) (in_range at.offset len stands.codes) 0 (λ i h.
+          let n = range_length at.offset len stands.codes (omega arith) in
+          let below : i < len = omega arith in
+          let t : Turns = turns at.name (at.offset + i) in
+          rw (range_at at.offset len stands.codes i below, stands.each (at.offset + i) (omega arith))
+          (code_small stamp t.wrote t.wrote_before t.read (omega arith) (small_later to.last stamp t.wrote later (to.inv.small at.name (at.offset + i)))));
+    }

@@ -8,7 +8,7 @@ use Rattle.shadow_codes.specs.Codes.{greatest_of}
 use Rattle.privacy_check.specs.declared.access.Access.{Access}
 use Rattle.privacy_check.specs.declared.access.Access.TheVariants.{Read, Write}
 use Rattle.privacy_check.specs.declared.access.BadCode.{BadCode}
-use Rattle.privacy_check.specs.Shadows.{Shadows, shadows_after, next_period, untouched, told}
+use Rattle.privacy_check.specs.Shadows.{Shadows, MayAccess, shadows_after, next_period, untouched, told}
 
 -- a call on a shadow
 pub data Call : Type 0 where
@@ -126,3 +126,9 @@ RefusalLaw = (sizes : List (ℕ × ℕ)) (calls : List Call) (access : Access) (
     → Lawful sizes 3 (calls ++ Touch access at len stamp ∷ []) → AllOk (untouched sizes) calls
     → told (shadows_after access stamp at len (after_calls (untouched sizes) calls))
     ≡ answer_by (refused access stamp (λ offset. turns_after at.name offset no_turns calls) at.offset len)
+
+-- such an access may be asked for: its range is there, and no code is above its stamp
+abbrev pub AccessLaw : Type 0
+AccessLaw = (sizes : List (ℕ × ℕ)) (calls : List Call) (access : Access) (at : Place) (len stamp : ℕ)
+    → Lawful sizes 3 (calls ++ Touch access at len stamp ∷ []) → AllOk (untouched sizes) calls
+    → MayAccess (after_calls (untouched sizes) calls) at len stamp

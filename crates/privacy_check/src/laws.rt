@@ -1,5 +1,5 @@
 //! A shadow stands for sets of turns.
-ghost use Rattle.privacy_check.specs.History.{CodesLaw, RefusalLaw};
+ghost use Rattle.privacy_check.specs.History.{CodesLaw, RefusalLaw, AccessLaw};
 
 /// Each code says which turns of the worker wrote its byte, in this period and in earlier ones, and whether one read it
 /// in this period.
@@ -10,4 +10,9 @@ pub fn codes_law()
 /// An access is refused exactly at the first byte where those turns say so.
 pub fn refusal_law()
     ensures { RefusalLaw }
+{}
+
+/// A lawful access meets the condition of the call.
+pub fn access_law()
+    ensures { AccessLaw }
 {}

@@ -44,3 +44,85 @@ fn three_operands(rt: HostRuntime) {
         assert_eq!(rt; sum.finish(Int::new(8, row.0)).map(|n| n.bits()), row.1);
     }
 }
+
+/// The partial of these operands of width 8.
+macro_rules! partial_of {
+    ($op:expr, $($x:literal),*) => {{
+        let mut partial = Partial::start($op, PLAIN, 8);
+        $(partial.add(Int::new(8, $x));)*
+        partial
+    }};
+}
+
+#[test]
+fn every_order(rt: HostRuntime) {
+    // the operation; 247 with 221, and 247 with 221, 187 and 126, by another tool
+    let rows = [
+        (RedOp::Add, 212, 13),
+        (RedOp::Mul, 59, 78),
+        (RedOp::And, 213, 16),
+        (RedOp::Or, 255, 255),
+        (RedOp::Xor, 42, 239),
+        (RedOp::Smax, 247, 126),
+        (RedOp::Smin, 221, 187),
+        (RedOp::Umax, 247, 247),
+        (RedOp::Umin, 221, 126),
+    ];
+    for row in rows {
+        let first = Int::new(8, 247);
+        let (one, all) = (Some(row.1), Some(row.2));
+        assert_eq!(rt;
+            partial_of!(row.0, 221).finish(first).map(|n| n.bits()),
+            one
+        );
+        assert_eq!(rt;
+            partial_of!(row.0, 221, 187, 126)
+                .finish(first)
+                .map(|n| n.bits()),
+            all
+        );
+        assert_eq!(rt;
+            partial_of!(row.0, 221, 126, 187)
+                .finish(first)
+                .map(|n| n.bits()),
+            all
+        );
+        assert_eq!(rt;
+            partial_of!(row.0, 187, 221, 126)
+                .finish(first)
+                .map(|n| n.bits()),
+            all
+        );
+        assert_eq!(rt;
+            partial_of!(row.0, 187, 126, 221)
+                .finish(first)
+                .map(|n| n.bits()),
+            all
+        );
+        assert_eq!(rt;
+            partial_of!(row.0, 126, 221, 187)
+                .finish(first)
+                .map(|n| n.bits()),
+            all
+        );
+        assert_eq!(rt;
+            partial_of!(row.0, 126, 187, 221)
+                .finish(first)
+                .map(|n| n.bits()),
+            all
+        );
+    }
+}
+
+#[test]
+fn a_sum_without_flags_has_no_range(rt: HostRuntime) {
+    let sum = partial_of!(RedOp::Add, 100, 20, 156);
+    assert_eq!(rt; sum.finish(Int::new(8, 8)).map(|n| n.bits()), Some(28));
+}
+
+#[test]
+fn two_partials_join(rt: HostRuntime) {
+    let mut sum = partial_of!(RedOp::Add, 100, 20);
+    sum.join(&partial_of!(RedOp::Add, 156));
+    assert_eq!(rt; sum.finish(Int::new(8, 0)).map(|n| n.bits()), Some(20));
+}
