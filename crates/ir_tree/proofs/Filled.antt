@@ -41,14 +41,14 @@ parts name names k (node.Struct packed ks) at to within same = ap (StructV packe
 parts name names k (node.Named x) at to within same = refl
 
 -- the type of a node, by the types of the numbers in it
-type_is : (t : Table) (k : ℕ) (n : TypeNode) → IsTable t → slice_get t.types k ≡ Some n → type_at t k ≡ type_of_node (name_at t) (type_at t) n
+pub type_is : (t : Table) (k : ℕ) (n : TypeNode) → IsTable t → slice_get t.types k ≡ Some n → type_at t k ≡ type_of_node (name_at t) (type_at t) n
 unfolding type_at
 type_is t k n is known =
     let all = meanings (type_of_node (name_at t)) PtrV [] t.types in
     meaning_from (type_of_node (name_at t)) PtrV [] t.types k n known
     ∙ parts (name_at t) (length t.names) k n (λ j. get_or (take k all) j PtrV) (λ j. get_or all j PtrV) (is.types k n known) (λ j lt. get_or-take k all j PtrV lt)
 
-fields_by : (named : Name → Option Layout) (at : ℕ → TypeV) (ks : List ℕ) → layouts_with named (listed (map at ks)) ≡ map (λ j. layout_with named (at j)) ks
+pub fields_by : (named : Name → Option Layout) (at : ℕ → TypeV) (ks : List ℕ) → layouts_with named (listed (map at ks)) ≡ map (λ j. layout_with named (at j)) ks
 fields_by named at [] = refl
 fields_by named at (k ∷ ks) = ap (λ (ls : List (Option Layout)). layout_with named (at k) ∷ ls) (fields_by named at ks)
 

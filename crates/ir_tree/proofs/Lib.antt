@@ -7,3 +7,5 @@ pub mod Growing
 pub mod Filled
 pub mod Steps
 pub mod Bodies
+pub mod Offsets
+pub mod Looking

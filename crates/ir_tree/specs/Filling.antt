@@ -9,7 +9,7 @@ use Rattle.ir_tree.specs.Table.{Table}
 use Rattle.ir_tree.specs.Trees.{TypeV}
 use Rattle.ir_tree.specs.Naming.{name_at, type_at}
 use Rattle.ir_tree.specs.Shown.{shown_named}
-use Rattle.ir_tree.specs.Layouts.{int_layout, array_layout, struct_layout, layout_with, named_layout, layout_of}
+use Rattle.ir_tree.specs.Layouts.{int_layout, array_layout, struct_layout, place_in, layout_of}
 use Rattle.ir_tree.specs.Bounds.{IsLayout}
 
 -- the layout that was found for a number
@@ -103,3 +103,40 @@ pub record Settles (t : Table) (bodies : List (Option ℕ)) (old new : List (Opt
   pub len : length new ≡ length old
   pub bounded : AreBounded new
   pub done : (k : ℕ) → k < length new → IsDone t bodies new k
+
+-- where the fields of a struct stand, from what was found for them
+pub record ArePlaces (packed : Bool) (fields : List (Option Layout)) (places : List (Option ℕ)) : Type 0 where
+  pub len : length places ≡ length fields
+  pub each : (i : ℕ) → i < length fields → slice_index_or places i None ≡ place_in packed fields i
+
+-- the same of the fields of a node, which has none where it is no struct
+abbrev pub NodePlaces : List (Option Layout) → List (Option ℕ) → TypeNode → Type 0
+NodePlaces answers places (node.Struct packed ks) = ArePlaces packed (map (answer_at answers) ks) places
+NodePlaces answers places n = places ≡ []
+
+-- the places of the fields of each type
+pub record AllPlaces (t : Table) (answers : List (Option Layout)) (count : ℕ) (places : List (List (Option ℕ))) : Type 0 where
+  pub len : length places ≡ count
+  pub each : (k : ℕ) (n : TypeNode) → k < count → slice_get t.types k ≡ Some n → NodePlaces answers (slice_index_or places k []) n
+
+-- what is found once of the types of a module
+pub record Found : Type 0 where
+  pub layouts : List (Option Layout)
+  pub bodies : List (Option ℕ)
+  pub places : List (List (Option ℕ))
+
+-- what was found is of this table and these named types
+pub record IsFound (t : Table) (ns : List (NamedType ℕ ℕ)) (f : Found) : Type 0 where
+  pub within : All (NamedWithin t) ns
+  pub layouts : AreLayouts t ns f.layouts
+  pub bodies : AreBodies ns (length t.names) f.bodies
+  pub places : AllPlaces t f.layouts (length t.types) f.places
+
+-- where a field of the type of a number stands
+abbrev pub place_at : Found → ℕ → ℕ → Option ℕ
+place_at f k i = slice_index_or (slice_index_or f.places k []) i None
+
+-- the same of a type that may be named
+abbrev pub node_place : Found → TypeNode → ℕ → ℕ → Option ℕ
+node_place f (node.Named x) k i = option_and_then (λ b. place_at f b i) (slice_index_or f.bodies x None)
+node_place f n k i = place_at f k i

@@ -1,5 +1,5 @@
 -- Size and alignment of types, after the layout rules of the LLVM Language Reference with natural alignment.
-use Rattle.std.specs.Prelude.{ℕ, zero, suc, ◌+◌, ◌-◌, ◌*◌, ◌/◌, ◌^◌, max, Bool, true, false, ◌||◌, nat_eq, nat_lt, if◌then◌else◌, List, [], ◌∷◌, length, Option, Some, None, option_and_then, fold}
+use Rattle.std.specs.Prelude.{ℕ, zero, suc, ◌+◌, ◌-◌, ◌*◌, ◌/◌, ◌^◌, max, Bool, true, false, ◌||◌, nat_eq, nat_lt, if◌then◌else◌, List, [], ◌∷◌, length, Option, Some, None, option_map, option_and_then, fold, take, slice_index_or}
 use Rattle.pv_base.specs.declared.name.Name.{Name}
 use Rattle.ir_tree.specs.declared.layout.Layout.{Layout}
 use Rattle.ir_tree.specs.declared.items.NamedType.{NamedType}
@@ -79,3 +79,21 @@ named_layout (suc n) types name = option_and_then (layout_with (named_layout n t
 -- itself, since more names are then opened one in another than there are
 abbrev pub layout_of : List (NamedType Name TypeV) → TypeV → Option Layout
 layout_of types of = layout_with (named_layout (length types) types) of
+
+-- where the field of an index stands, from the layouts of all fields
+abbrev pub place_in : Bool → List (Option Layout) → ℕ → Option ℕ
+place_in packed fields i = option_and_then (λ so. option_map (field_place packed so) (slice_index_or fields i None)) (fold (joined packed) no_fields (take i fields))
+
+-- a struct's fields, and whether it is packed
+abbrev pub struct_fields : TypeV → Option (Bool × TypesV)
+struct_fields (StructV packed fields) = Some (packed, fields)
+struct_fields of = None
+
+-- the same of a struct that may be named
+abbrev pub fields_of : List (NamedType Name TypeV) → TypeV → Option (Bool × TypesV)
+fields_of types (NamedV name) = option_and_then struct_fields (type_named types name)
+fields_of types of = struct_fields of
+
+-- the offset in bytes of the field of an index
+abbrev pub offset_of : List (NamedType Name TypeV) → TypeV → ℕ → Option ℕ
+offset_of types of i = option_and_then (λ f. place_in f.0 (layouts_with (named_layout (length types) types) f.1) i) (fields_of types of)

@@ -8,7 +8,7 @@ use Rattle.ir_tree.specs.declared.layout.Layout.{Layout}
 use Rattle.ir_tree.specs.Table.{Table}
 use Rattle.ir_tree.specs.Trees.{TypeV, ConstantV}
 use Rattle.ir_tree.specs.Naming.{type_at}
-use Rattle.ir_tree.specs.Layouts.{layout_of}
+use Rattle.ir_tree.specs.Layouts.{layout_of, offset_of}
 use Rattle.ir_tree.specs.Filling.{named_types}
 
 -- the table and the items of a module
@@ -25,3 +25,7 @@ types_of m = named_types m.names m.types
 -- the layout of the type of a number
 abbrev pub layout_in : Items → ℕ → Option Layout
 layout_in m of = layout_of (types_of m) (type_at m.names of)
+
+-- the offset in bytes of a field of the type of a number, where that is a struct with that field
+abbrev pub offset_in : Items → ℕ → ℕ → Option ℕ
+offset_in m of i = offset_of (types_of m) (type_at m.names of) i

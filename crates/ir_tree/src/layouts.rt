@@ -1,8 +1,9 @@
 //! The layouts of all types of a table, found once and looked up from then on.
 ghost use Rattle.std.specs.Prelude.{◌≡◌, ◌<◌, length, map, All, IfOk};
 ghost use Rattle.ir_tree.specs.Layouts.{struct_layout};
-ghost use Rattle.ir_tree.specs.Filling.{answer_at, named_answer, node_layout, AreBodies, AreBounded, AreLayouts, NamedWithin, Passes, Reaches, Settles, Tries};
+ghost use Rattle.ir_tree.specs.Filling.{answer_at, named_answer, node_layout, node_place, place_at, AreBodies, AreBounded, IsFound, NamedWithin, Passes, Reaches, Settles, Tries};
 
+use crate::fields::all_places;
 use crate::items::NamedType;
 use crate::layout::{Layout, array_layout, int_layout, joined, padded};
 use crate::nodes::{NameId, TypeId, TypeNode};
@@ -12,7 +13,7 @@ use pv_base::want::Memory;
 use std::alloc::Global;
 use std::marker::Model;
 
-fn answer_at(answers: &[Option<Layout>], number: TypeId) -> Option<Layout>
+pub(crate) fn answer_at(answers: &[Option<Layout>], number: TypeId) -> Option<Layout>
     ensures { result ≡ answer_at answers.now number }
 {
     match answers.get(number as usize) {
@@ -236,40 +237,72 @@ fn enter(
     }
 }
 
-/// The layouts of all types of a module, by their numbers.
+/// What is found once of the types of a module, by their numbers: layouts, the types of names, and the places of fields.
 #[derive(Drop)]
 pub struct Layouts {
-    found: List<Option<Layout>>,
+    layouts: List<Option<Layout>>,
+    bodies: List<Option<TypeId>>,
+    places: List<List<Option<u64>>>,
 }
 
 impl Model for Layouts {
-    ghost use Rattle.std.specs.Prelude.{List, Option};
-    ghost use Rattle.ir_tree.specs.declared.layout.Layout.{Layout as LayoutV};
+    ghost use Rattle.ir_tree.specs.Filling.{Found};
 
-    ghost Value = { List (Option LayoutV) };
+    ghost Value = { Found };
 
-    ghost view = { λ l. l.found };
+    ghost view = { λ l. record { layouts = l.layouts; bodies = l.bodies; places = l.places } };
 }
 
 impl Layouts {
-    /// Finds the layouts in time and memory linear in the table, however deep it is nested.
+    /// Finds them in time and memory linear in the table, however deep it is nested.
     pub fn new(alloc: Global, names: &Names, types: &[NamedType]) -> Result<Layouts, Memory>
         requires { All (NamedWithin names.now) types.now }
-        ensures { IfOk result (AreLayouts names.now types.now) }
+        ensures { IfOk result (IsFound names.now types.now) }
     {
         names.is_table();
         let bodies = bodies(alloc, names.name_count(), types)?;
         let order = order(alloc, names, bodies.as_slice())?;
-        let mut found = List::repeat(alloc, None, names.type_count())?;
-        follow(order.as_slice(), names, bodies.as_slice(), &mut found);
-        settle(names, bodies.as_slice(), &mut found);
-        Ok(Layouts { found })
+        let mut layouts = List::repeat(alloc, None, names.type_count())?;
+        follow(order.as_slice(), names, bodies.as_slice(), &mut layouts);
+        settle(names, bodies.as_slice(), &mut layouts);
+        let places = all_places(alloc, names, layouts.as_slice())?;
+        Ok(Layouts {
+            layouts,
+            bodies,
+            places,
+        })
     }
 
     /// The layout of a type; `None` where it has none.
     pub fn of(&self, number: TypeId) -> Option<Layout>
-        ensures { result ≡ answer_at self.now number }
+        ensures { result ≡ answer_at self.now.layouts number }
     {
-        answer_at(self.found.as_slice(), number)
+        answer_at(self.layouts.as_slice(), number)
+    }
+
+    /// Where a field of a type stands that is a struct, and not a named one.
+    fn own_place(&self, number: TypeId, index: u32) -> Option<u64>
+        ensures { result ≡ place_at self.now number index }
+    {
+        match self.places.as_slice().get(number as usize) {
+            Some(places) => match places.as_slice().get(index as usize) {
+                Some(place) => *place,
+                None => None,
+            },
+            None => None,
+        }
+    }
+
+    /// Where a field of a struct stands, which may be named; `None` where there is no such field or no layout of it.
+    pub(crate) fn place(&self, node: &TypeNode, number: TypeId, index: u32) -> Option<u64>
+        ensures { result ≡ node_place self.now node.now number index }
+    {
+        match node {
+            TypeNode::Named(name) => match self.bodies.as_slice().get(*name as usize) {
+                Some(Some(body)) => self.own_place(*body, index),
+                _ => None,
+            },
+            _ => self.own_place(number, index),
+        }
     }
 }

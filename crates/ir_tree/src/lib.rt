@@ -2,6 +2,7 @@
 #![tactic(auto)]
 
 pub mod checked;
+pub mod fields;
 pub mod instruction;
 pub mod items;
 pub mod layout;

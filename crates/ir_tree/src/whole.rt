@@ -1,7 +1,7 @@
 //! A module: its names, types and items, with what is found once of them.
-ghost use Rattle.std.specs.Prelude.{◌≡◌, ◌<◌, length, All, IfOk};
+ghost use Rattle.std.specs.Prelude.{◌≡◌, ◌<◌, length, All, IfOk, Some, IsSome};
 ghost use Rattle.ir_tree.specs.Filling.{NamedWithin};
-ghost use Rattle.ir_tree.specs.Modules.{layout_in};
+ghost use Rattle.ir_tree.specs.Modules.{layout_in, offset_in};
 
 use crate::items::{Function, Global, NamedType};
 use crate::layout::Layout;
@@ -24,14 +24,14 @@ pub struct Module {
 }
 
 impl Model for Module {
-    ghost use Rattle.ir_tree.specs.Filling.{AreLayouts};
+    ghost use Rattle.ir_tree.specs.Filling.{IsFound};
     ghost use Rattle.ir_tree.specs.Modules.{Items};
 
     ghost Value = { Items };
 
     ghost view = { λ m. record { names = m.names; types = m.types; globals = m.globals; functions = m.functions } };
 
-    ghost invariant = { λ m. AreLayouts m.names m.types m.layouts };
+    ghost invariant = { λ m. IsFound m.names m.types m.layouts };
 }
 
 impl Module {
@@ -86,12 +86,35 @@ impl Module {
     {
         self.layouts.of(of)
     }
+
+    fn place(&self, of: TypeId, index: u32) -> Option<u64>
+        requires { of < length self.now.names.types }
+        ensures { result ≡ offset_in self.now of index }
+    {
+        self.names.is_table();
+        match self.names.type_node(of) {
+            Some(node) => self.layouts.place(node, of, index),
+            None => None,
+        }
+    }
 }
 
 /// The layout of a type; `None` where it has none. It takes no memory, and only looks up.
-pub fn layout(module: &Module, of: TypeId) -> Option<Layout>
-    requires { of < length module.now.names.types }
-    ensures { result ≡ layout_in module.now of }
+pub fn layout(tree: &Module, of: TypeId) -> Option<Layout>
+    requires { of < length tree.now.names.types }
+    ensures { result ≡ layout_in tree.now of }
 {
-    module.layout(of)
+    tree.layout(of)
+}
+
+/// The offset in bytes of a field of a struct, which may be named. It takes no memory, and only looks up.
+pub fn field_offset(tree: &Module, of: TypeId, index: u32) -> u64
+    requires type_in { of < length tree.now.names.types }
+    requires field { IsSome (offset_in tree.now of index) }
+    ensures { Some result ≡ offset_in tree.now of index }
+{
+    match tree.place(of, index) {
+        Some(place) => place,
+        None => unreachable!(),
+    }
 }
