@@ -3,3 +3,4 @@ pub mod SetLemmas
 pub mod KeepLemmas
 pub mod ReadLemmas
 pub mod AddLemmas
+pub mod Counts

@@ -1,5 +1,5 @@
 //! Reads a profile.
-ghost use Rattle.std.specs.Prelude.{◌≡◌, ◌<◌, ◌^◌, length};
+ghost use Rattle.std.specs.Prelude.{◌≡◌, ◌<◌, ◌^◌, length, IfOk};
 ghost use Rattle.profile_reader.specs.declared.read.ProfileEnd.TheVariants.{Memory};
 ghost use Rattle.profile_reader.specs.Reads.{Reads};
 ghost use Rattle.profile_reader.specs.Reading.{said_of};
@@ -34,8 +34,17 @@ impl From<Memory> for ProfileEnd {
     }
 }
 
-/// Reads the text of a profile.
+/// Reads the text of a profile, which has fewer than 2^32 loops.
 pub fn read_profile(alloc: Global, text: &[u8]) -> Result<Profile, ProfileEnd>
+    requires { length text.now < 2 ^ 32 }
+    ensures reads { Reads (said_of text.now) result }
+    ensures loops { IfOk result (λ profile. length profile.loops < 2 ^ 32) }
+{
+    read_lines(alloc, text)
+}
+
+/// Reads a text line by line.
+fn read_lines(alloc: Global, text: &[u8]) -> Result<Profile, ProfileEnd>
     requires { length text.now < 2 ^ 32 }
     ensures { Reads (said_of text.now) result }
 {

@@ -2,7 +2,7 @@ use Rattle.std.proofs.Common.{◌≡◌, ◌+◌, ◌≤◌, length, None}
 use Rattle.profile_reader.specs.Texts.{lines_of}
 use Rattle.profile_reader.specs.Reading.{said_from}
 use Rattle.profile_reader.specs.Standing.{Stands, said_by}
-use Rattle.profile_reader.proofs.read.read_profile.Given as goal
+use Rattle.profile_reader.proofs.read.read_lines.Given as goal
 
 -- what is left of the text says what the whole says
 abbrev pub invariant-loop-rest : goal.invariant-loop-rest
