@@ -1,8 +1,9 @@
--- What contracts see of files and sinks in memory.
+-- What contracts see of files and sinks in memory, and of a sink over a writer.
 use Rattle.std.specs.Prelude.{ℕ, List}
 use Rattle.pv_base.specs.Outside.{Text}
 use Rattle.pv_base.specs.declared.in_memory.MemFiles.{MemFiles}
 use Rattle.pv_base.specs.declared.in_memory.MemSink.{MemSink}
+use Rattle.pv_base.specs.declared.host.HostSink.{HostSink}
 
 -- the pairs of name and content
 abbrev pub files_entries : MemFiles → List (Text × Text)
@@ -36,3 +37,10 @@ sink_calls s = s.calls
 -- how many of them failed
 abbrev pub sink_faults : MemSink → ℕ
 sink_faults s = s.faults
+
+abbrev pub writer_of : {W : Type 0} → HostSink W → W
+writer_of s = s.writer
+
+-- how many puts over a writer failed
+abbrev pub writer_faults : {W : Type 0} → HostSink W → ℕ
+writer_faults s = s.faults

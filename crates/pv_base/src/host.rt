@@ -1,5 +1,7 @@
 //! Files and sinks over the host's.
 ghost use Rattle.std.specs.Prelude.{◌≡◌, ◌≤◌, [], None, length, OnOk};
+ghost use Rattle.std.specs.Io.KnownBytes.{Appends};
+ghost use Rattle.pv_base.specs.Outside.{PutEnds};
 
 use crate::bytes::Bytes;
 use crate::outside::{FileEnd, Files, Sink, SinkFault, raised};
@@ -91,26 +93,9 @@ impl<W> HostSink<W> {
     }
 }
 
-fn write_whole<W: Write>(writer: &mut W, bytes: &[u8]) -> Result<(), SinkFault> {
-    let mut done = 0usize;
-    for _ in 0..u64::MAX {
-        if done == bytes.len() {
-            return Ok(());
-        }
-        match writer.write(&bytes[done..]) {
-            Ok(0) => return Err(SinkFault),
-            Ok(n) => done += n,
-            Err(e) => {
-                if e.kind() != std::io::ErrorKind::Interrupted {
-                    return Err(SinkFault);
-                }
-            }
-        }
-    }
-    Err(SinkFault)
-}
-
 impl<W: Write> Sink for HostSink<W> {
+    ghost use Rattle.pv_base.specs.Views.{writer_of, writer_faults};
+
     ghost held = { λ _. None };
 
     ghost faults = { λ s. s.faults };
@@ -119,12 +104,16 @@ impl<W: Write> Sink for HostSink<W> {
 
     ghost has_room = { λ _. tt };
 
-    fn put(&mut self, bytes: &[u8]) -> Result<(), SinkFault> {
-        match write_whole(&mut self.writer, bytes) {
+    fn put(&mut self, bytes: &[u8]) -> Result<(), SinkFault>
+        ensures later { writer_faults self.old ≤ writer_faults self.new }
+        ensures ends { PutEnds None None (writer_faults self.old) (writer_faults self.new) bytes.now result }
+        ensures written { OnOk result (Appends (W.contents (writer_of self.old)) (W.contents (writer_of self.new)) bytes.now) }
+    {
+        match self.writer.write_all(bytes) {
             Ok(()) => Ok(()),
-            Err(e) => {
+            Err(_) => {
                 self.faults = raised(self.faults);
-                Err(e)
+                Err(SinkFault)
             }
         }
     }
