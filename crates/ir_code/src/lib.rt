@@ -1,0 +1,5 @@
+//! A module with its names resolved: what the machine runs.
+#![tactic(auto)]
+
+pub mod code;
+pub mod op;
