@@ -1,1 +1,9 @@
+pub mod Options
+pub mod Places
+pub mod Noting
 pub mod Cases
+pub mod Tables
+pub mod Families
+pub mod Addresses
+pub mod Blocks
+pub mod Coding

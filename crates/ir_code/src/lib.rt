@@ -3,4 +3,7 @@
 
 pub mod cases;
 pub mod code;
+mod families;
+pub mod lookups;
 pub mod op;
+pub mod places;
