@@ -7,3 +7,5 @@ pub mod Families
 pub mod Addresses
 pub mod Blocks
 pub mod Coding
+pub mod Strides
+pub mod Fixed
