@@ -1,0 +1,6 @@
+pub mod Laws
+pub mod Choices
+pub mod ChoiceLaws
+pub mod Later
+pub mod Persisting
+pub mod Repeating
