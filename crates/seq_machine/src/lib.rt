@@ -1,0 +1,6 @@
+//! The sequential machine: one step over any memory, and the run of a program.
+#![tactic(auto)]
+
+pub mod state;
+pub mod values;
+pub mod numbers;
