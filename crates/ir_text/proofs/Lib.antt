@@ -4,3 +4,4 @@ pub mod ChoiceLaws
 pub mod Later
 pub mod Persisting
 pub mod Repeating
+pub mod RepeatedLaws
