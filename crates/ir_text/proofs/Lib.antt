@@ -5,3 +5,4 @@ pub mod Later
 pub mod Persisting
 pub mod Repeating
 pub mod RepeatedLaws
+pub mod Groups

@@ -2,6 +2,8 @@ pub mod Tokens
 pub mod Reading
 pub mod Choice
 pub mod Repeated
+pub mod Lists
+pub mod Passed
 pub mod Spelled
 pub mod Lawful
 pub mod Leaves
