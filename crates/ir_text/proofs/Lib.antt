@@ -6,3 +6,4 @@ pub mod Persisting
 pub mod Repeating
 pub mod RepeatedLaws
 pub mod Groups
+pub mod PassedLaws

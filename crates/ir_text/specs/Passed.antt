@@ -1,13 +1,15 @@
 -- What is passed over.
-use Rattle.std.specs.Prelude.{◌≡◌, ℕ, suc, ◌-◌, Bool, true, false, not, ◌&&◌, ◌||◌, nat_le, if◌then◌else◌, List, [], ◌∷◌, Result, Ok, Err, codes}
+use Rattle.std.specs.Prelude.{◌≡◌, ℕ, suc, ◌-◌, ◌==◌, length, Bool, true, false, not, ◌&&◌, ◌||◌, nat_le, if◌then◌else◌, List, [], ◌∷◌, Result, Ok, Err, codes}
 use Rattle.std.specs.Bool.{MatchBool}
+use Rattle.std.specs.List.{prefix_len}
+use Rattle.ir_lex.specs.Classes.{is_digit}
 use Rattle.std.proofs.Common.{◌⊎◌}
 use Rattle.ir_lex.specs.declared.token.TokenKind.{TokenKind}
 use Rattle.ir_lex.specs.declared.token.TokenKind.TheVariants as kind
 use Rattle.ir_lex.specs.declared.token.Cause.{Cause}
 use Rattle.ir_lex.specs.declared.token.Cause.TheVariants as causes
 use Rattle.ir_text.specs.declared.fault.Fault.TheVariants.{At, Ended}
-use Rattle.ir_text.specs.Tokens.{TokenV, is_mark, is_word, is_refused}
+use Rattle.ir_text.specs.Tokens.{TokenV, same, among, is_mark, is_word, is_refused}
 use Rattle.ir_text.specs.Reading.{Outcome, Reader, ◌>>=◌, Meaning, token_by, wrong}
 use Rattle.ir_text.specs.Leaves.{tested, mark, mark_at, word, string, string_at}
 use Rattle.ir_text.specs.Choice.{choose}
@@ -98,11 +100,6 @@ passed_by kind.Word t rest = if is_refused t then wrong t causes.Operand else af
 passed_by kind.Text t rest = after_string rest
 passed_by _ t rest = if is_mark 35 t then after_sign rest else wrong t causes.Operand
 
--- one attribute or marker: a word with what belongs to it, a string or two, #N
-unfoldable pub passed_at : Reader (Unit {0})
-passed_at [] = Err Ended
-passed_at (t ∷ rest) = passed_by t.kind t rest
-
 abbrev pub may_pass_by : TokenKind → (TokenV → Bool) → TokenV → Bool
 may_pass_by kind.Word stop t = not (stop t)
 may_pass_by kind.Text stop t = true
@@ -112,9 +109,27 @@ may_pass_by _ stop t = is_mark 35 t
 unfoldable pub may_pass : (TokenV → Bool) → TokenV → Bool
 may_pass stop t = may_pass_by t.kind stop t
 
+-- one attribute or marker: a word with what belongs to it, a string or two, #N
+unfoldable pub passed_at : (TokenV → Bool) → Reader (Unit {0})
+passed_at stop [] = Err Ended
+passed_at stop (t ∷ rest) = if may_pass stop t then passed_by t.kind t rest else wrong t causes.Operand
+
 -- attributes and markers up to a word that is not passed over, or another token
 abbrev pub words_at : (TokenV → Bool) → Reader (Unit {0})
-words_at stop = skipped (may_pass stop) passed_at
+words_at stop = skipped (may_pass stop) (passed_at stop)
+
+-- `iN`, whatever the width
+unfoldable pub is_int_word : List ℕ → Bool
+is_int_word [] = false
+is_int_word (b ∷ digits) = b == 105 && not (length digits == 0) && prefix_len is_digit digits == length digits
+
+-- a word that begins a type
+abbrev pub is_type_word : List ℕ → Bool
+is_type_word text = same text (codes "ptr") || same text (codes "void") || is_int_word text
+
+-- the words that are not passed over: these, and where it is said those that begin a type
+abbrev pub stops : List (List ℕ) → Bool → TokenV → Bool
+stops words types t = among words t.text || (types && is_type_word t.text)
 
 -- ---- how they are spelled
 
@@ -128,9 +143,6 @@ abbrev pub passed_led : TokenKind → TokenV → Spelling (Unit {0})
 passed_led kind.Word t = unless (is_refused t) with_word
 passed_led kind.Text t = with_string
 passed_led _ t = when (is_mark 35 t) (one_token some_integer)
-
-abbrev pub a_passed : Spelling (Unit {0})
-a_passed = Led (λ t. passed_led t.kind t)
 
 -- the words that are passed over are not the ones at which this ends
 abbrev pub passed_unless : (TokenV → Bool) → Spelling (Unit {0})
