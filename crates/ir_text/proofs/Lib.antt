@@ -7,3 +7,5 @@ pub mod Repeating
 pub mod RepeatedLaws
 pub mod Groups
 pub mod PassedLaws
+pub mod TailLaws
+pub mod ListLaws

@@ -14,7 +14,7 @@ use Rattle.ir_text.specs.Lawful.{Follow, Behind, anything, Lawful, Refuses}
 use Rattle.ir_text.specs.Choice.{choose, Opens}
 use Rattle.ir_text.specs.Leaves.{tested, mark, mark_at}
 use Rattle.ir_text.specs.Repeated.{repeated, repeated_under, each, each_under, stays}
-use Rattle.ir_text.specs.Passed.{skipped, skips, is_integer, some_integer, some_string, group_from, a_group, after_word, after_string, passed_by, passed_at, may_pass, may_pass_by, words_at, with_word, with_string, passed_led, passed_unless, some_words}
+use Rattle.ir_text.specs.Passed.{AfterWord, AfterPassed, skipped, skips, is_integer, some_integer, some_string, group_from, a_group, after_word, after_string, passed_by, passed_at, may_pass, may_pass_by, words_at, with_word, with_string, passed_led, passed_unless, some_words}
 use Rattle.ir_text.proofs.Laws.{nothing_laws, in_turn_before}
 use Rattle.ir_text.proofs.Choices.{in_turn, weaken, refusing, led, token_laws}
 use Rattle.ir_text.proofs.ChoiceLaws.{choice, optional, token_opens, opens_more}
@@ -31,10 +31,6 @@ skipped_laws n test item s between laws opens followed =
     in_turn_before n (Behind test between) (Behind test between) (repeated test item) (λ all ts. Ok (tt, ts)) (each s) (λ all. nothing tt)
     (repeated_laws test (λ _. item) stays (λ _. s) between (λ m _. laws m) (λ _ a ws t. opens a ws t) (λ _ a ws rest t. followed a ws rest t) n tt)
     (λ all. nothing_laws n (Behind test between) tt) (λ all u ws rest t b. rw t.1 b)
-
--- behind a word stands nothing that belongs to it
-unfoldable pub AfterWord : Follow
-AfterWord = Behind (is_mark 40) (Behind is_integer anything)
 
 pub after_word_laws : (n : ℕ) → Lawful n AfterWord after_word with_word
 unfolding AfterWord next_is
@@ -66,10 +62,6 @@ after_string_laws n =
     optional n (is_mark 61) anything (λ ts. mark_at 61 ts >>= λ x. token_by some_string x.1) tt (InTurn (one_token (mark 61)) (λ _. one_token some_string))
     (in_turn n anything (mark_at 61) (λ _. token_by some_string) (one_token (mark 61)) (λ _. one_token some_string) (token_laws n (mark 61)) (λ _. token_laws n some_string))
     (opens_more (is_mark 61) (one_token (mark 61)) (λ _. one_token some_string) (token_opens (is_mark 61) (λ _. causes.Operand)))
-
--- behind one that is passed over
-unfoldable pub AfterPassed : Follow
-AfterPassed = Behind (is_mark 61) AfterWord
 
 module _ (n : ℕ) (stop : TokenV → Bool) where
   sign_each : (b : Bool) (t : TokenV) → Lawful n AfterPassed (λ rest. cond b (token_by some_integer rest) (wrong t causes.Operand)) (when b (one_token some_integer)) ⊎ Refuses (λ rest. cond b (token_by some_integer rest) (wrong t causes.Operand)) (when b (one_token some_integer)) t

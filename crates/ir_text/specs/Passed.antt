@@ -14,6 +14,7 @@ use Rattle.ir_text.specs.Reading.{Outcome, Reader, ◌>>=◌, Meaning, token_by,
 use Rattle.ir_text.specs.Leaves.{tested, mark, mark_at, word, string, string_at}
 use Rattle.ir_text.specs.Choice.{choose}
 use Rattle.ir_text.specs.Repeated.{repeated, each}
+use Rattle.ir_text.specs.Lawful.{Follow, Behind, anything}
 use Rattle.ir_text.specs.Spelled.{Spelling, InTurn, Led, one_token, nothing, when, unless}
 
 -- items as long as the next token passes a test, of which nothing is kept
@@ -150,3 +151,11 @@ passed_unless stop = Led (λ t. when (may_pass stop t) (passed_led t.kind t))
 
 abbrev pub some_words : (TokenV → Bool) → Spelling (Unit {0})
 some_words stop = skips (passed_unless stop)
+
+-- behind a word stands nothing that belongs to it
+unfoldable pub AfterWord : Follow
+AfterWord = Behind (is_mark 40) (Behind is_integer anything)
+
+-- and behind what is passed over no `=`, which would belong to a string
+unfoldable pub AfterPassed : Follow
+AfterPassed = Behind (is_mark 61) AfterWord
