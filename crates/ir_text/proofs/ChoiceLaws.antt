@@ -5,9 +5,11 @@ use Rattle.ir_lex.specs.declared.token.Cause.{Cause}
 use Rattle.ir_text.specs.declared.fault.Fault.TheVariants.{At, Ended}
 use Rattle.ir_text.specs.Tokens.{TokenV}
 use Rattle.ir_text.specs.Reading.{Outcome, Reader, next_is}
-use Rattle.ir_text.specs.Spelled.{Spelling}
-use Rattle.ir_text.specs.Lawful.{Follow, ReadsAll, Unfaulted, SameNext, Takes, WrongAt, Lawful}
+use Rattle.ir_text.specs.Spelled.{Spelling, InTurn, nothing, one_token}
+use Rattle.ir_text.specs.Leaves.{tested}
+use Rattle.ir_text.specs.Lawful.{Follow, Behind, ReadsAll, Unfaulted, SameNext, Takes, WrongAt, Lawful}
 use Rattle.ir_text.specs.Choice.{choose, Opens}
+use Rattle.ir_text.proofs.Laws.{nothing_laws}
 
 module _ {A : Type 0} (n : ℕ) (test : TokenV → Bool) (one two follow : Follow) (r q : Reader A) (s t : Spelling A) (first : Lawful n one r s) (second : Lawful n two q t)
     (opens : (a : A) (ws : List TokenV) → s a ws → Opens test ws) (otherwise : (a : A) (ws rest : List TokenV) → t a ws → follow rest → next_is test (ws ++ rest) ≡ false)
@@ -149,3 +151,26 @@ module _ {A : Type 0} (n : ℕ) (test : TokenV → Bool) (one two follow : Follo
 
   pub choice : Lawful n follow both either
   choice = record { sound = choice_sound; complete = choice_complete; faults = choice_faults; begins = open_second [] at_none second.begins }
+
+-- ---- what may be left out
+
+module _ {A : Type 0} (n : ℕ) (test : TokenV → Bool) (last : Follow) (r : Reader A) (a : A) (s : Spelling A) (laws : Lawful n last r s) (opens : (b : A) (ws : List TokenV) → s b ws → Opens test ws) where
+  left_out : (b : A) (ws rest : List TokenV) → nothing a b ws → Behind test last rest → next_is test (ws ++ rest) ≡ false
+  left_out b ws rest s f = rw s.1 f.none
+
+  pub optional : Lawful n (Behind test last) (choose test r (λ ts. Ok (a, ts))) (λ b ws. nothing a b ws ⊎ s b ws)
+  optional = choice n test last (Behind test last) (Behind test last) r (λ ts. Ok (a, ts)) s (nothing a) laws (nothing_laws n (Behind test last) a) opens left_out (λ rest f. f.fits) (λ rest f. f)
+
+-- ---- tokens that pass a test
+
+tested_is : (b : Bool) (cause : Cause) (u : Unit {0}) → tested b cause ≡ Ok u → b ≡ true
+tested_is true cause u e = refl
+tested_is false cause u e = absurd cc
+
+pub token_opens : (test : TokenV → Bool) (cause : TokenV → Cause) (u : Unit {0}) (ws : List TokenV) → one_token (λ t. tested (test t) (cause t)) u ws → Opens test ws
+token_opens test cause u ws s = record { token = s.token; rest = []; parts = s.parts; is = tested_is (test s.token) (cause s.token) u s.is }
+
+pub opens_more : {A B : Type 0} (test : TokenV → Bool) (s : Spelling A) (q : A → Spelling B) → ((a : A) (ws : List TokenV) → s a ws → Opens test ws) → (b : B) (ws : List TokenV) → InTurn s q b ws → Opens test ws
+opens_more test s q opens b ws t =
+    let o = opens t.value t.front t.first_spells in
+    record { token = o.token; rest = o.rest ++ t.rest; parts = t.parts ∙ ap (λ (u : List TokenV). u ++ t.rest) o.parts; is = o.is }

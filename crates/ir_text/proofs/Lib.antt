@@ -4,3 +4,8 @@ pub mod ChoiceLaws
 pub mod Later
 pub mod Persisting
 pub mod Repeating
+pub mod RepeatedLaws
+pub mod Groups
+pub mod PassedLaws
+pub mod TailLaws
+pub mod ListLaws

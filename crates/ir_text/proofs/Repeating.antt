@@ -6,7 +6,7 @@ use Rattle.ir_text.specs.declared.fault.Fault.TheVariants.{At, Ended}
 use Rattle.ir_text.specs.Tokens.{TokenV}
 use Rattle.ir_text.specs.Reading.{Outcome, Reader, ◌>>=◌, gives, next_is}
 use Rattle.ir_text.specs.Spelled.{Spelling, InTurn, nothing}
-use Rattle.ir_text.specs.Lawful.{Follow, anything, unless_next, Takes, WrongAt, Lawful}
+use Rattle.ir_text.specs.Lawful.{Follow, Behind, anything, unless_next, Takes, WrongAt, Lawful}
 use Rattle.ir_text.specs.Choice.{choose, Opens}
 use Rattle.ir_text.specs.Repeated.{Both, repeated_to, repeated_under, each_under}
 use Rattle.ir_text.proofs.Laws.{nothing_laws, in_turn_before}
@@ -18,15 +18,10 @@ module _ {S A : Type 0} (test : TokenV → Bool) (item : S → Reader A) (next :
     (laws : (n : ℕ) (state : S) → Lawful n between (item state) (spells state))
     (opens : (state : S) (a : A) (ws : List TokenV) → spells state a ws → Opens test ws)
     (followed : (state : S) (a : A) (ws rest : List TokenV) → spells state a ws → between (ws ++ rest)) where
-  -- behind all of them
-  pub record Behind (rest : List TokenV) : Type 0 where
-    pub none : next_is test rest ≡ false
-    pub fits : between rest
-
   abbrev up_to : ℕ → S → Spelling (List A)
   up_to k state all ws = each_under spells next state all ws × (length all ≤ k)
 
-  takes : (state : S) → Takers (spells state)
+  pub takes : (state : S) → Takers (spells state)
   takes state a ws s = let o = opens state a ws s in omega (arith, ap length o.parts)
 
   step : ℕ → S → Reader (List A)
@@ -36,7 +31,7 @@ module _ {S A : Type 0} (test : TokenV → Bool) (item : S → Reader A) (next :
   abbrev step_spells : ℕ → S → Spelling (List A)
   step_spells k state = InTurn (spells state) (λ a. InTurn (up_to k (next state a)) (λ all. nothing (a ∷ all)))
 
-  comes : (state : S) (all : List A) (ws rest : List TokenV) → each_under spells next state all ws → Behind rest → between (ws ++ rest)
+  comes : (state : S) (all : List A) (ws rest : List TokenV) → each_under spells next state all ws → (Behind test between) rest → between (ws ++ rest)
   comes state [] ws rest s b = rw s b.fits
   comes state (a ∷ all) ws rest s b =
       let is : ws ++ rest ≡ s.front ++ (s.rest ++ rest) = ap (λ (u : List TokenV). u ++ rest) s.parts ∙ append_assoc s.front s.rest rest in
@@ -92,12 +87,12 @@ module _ {S A : Type 0} (test : TokenV → Bool) (item : S → Reader A) (next :
       let o = opens state s.value s.front s.first_spells in
       record { token = o.token; rest = o.rest ++ s.rest; parts = s.parts ∙ ap (λ (u : List TokenV). u ++ s.rest) o.parts; is = o.is }
 
-  none_spelled : (all : List A) (ws rest : List TokenV) → nothing [] all ws → Behind rest → next_is test (ws ++ rest) ≡ false
+  none_spelled : (all : List A) (ws rest : List TokenV) → nothing [] all ws → (Behind test between) rest → next_is test (ws ++ rest) ≡ false
   none_spelled all ws rest s b = rw s.1 b.none
 
-  zero_laws : (n : ℕ) (state : S) → Lawful n Behind (repeated_to test item next 0 state) (up_to 0 state)
+  zero_laws : (n : ℕ) (state : S) → Lawful n (Behind test between) (repeated_to test item next 0 state) (up_to 0 state)
   unfolding repeated_to
-  zero_laws n state = respell n Behind (λ ts. Ok ([], ts)) (nothing []) (up_to 0 state) to from (nothing_laws n Behind [])
+  zero_laws n state = respell n (Behind test between) (λ ts. Ok ([], ts)) (nothing []) (up_to 0 state) to from (nothing_laws n (Behind test between) [])
     where
       to : (all : List A) (ws : List TokenV) → nothing [] all ws → up_to 0 state all ws
       to [] ws s = (s.1, omega arith)
@@ -107,16 +102,16 @@ module _ {S A : Type 0} (test : TokenV → Bool) (item : S → Reader A) (next :
       from [] ws s = (refl, s.0)
       from (a ∷ all) ws s = let short = s.1 in absurd (omega arith)
 
-  many_laws : (k n : ℕ) (state : S) → Lawful n Behind (repeated_to test item next k state) (up_to k state)
+  pub many_laws : (k n : ℕ) (state : S) → Lawful n (Behind test between) (repeated_to test item next k state) (up_to k state)
   unfolding repeated_to step
   many_laws zero n state = zero_laws n state
   many_laws (suc k) n state =
-      respell n Behind (repeated_to test item next (suc k) state) (λ all ws. nothing [] all ws ⊎ step_spells k state all ws) (up_to (suc k) state) (to_each k state) (from_each k state)
-      (choice n test Behind Behind Behind (step k state) (gives []) (step_spells k state) (nothing [])
-      (in_turn_before n between Behind (item state) (λ a us. repeated_to test item next k (next state a) us >>= λ others. Ok (a ∷ others.0, others.1)) (spells state) _ (laws n state)
-      (λ a. in_turn_before n Behind Behind (repeated_to test item next k (next state a)) (λ all us. Ok (a ∷ all, us)) (up_to k (next state a)) _ (many_laws k n (next state a)) (λ all. nothing_laws n Behind (a ∷ all)) (λ all bs ws rest s b. rw s.1 b))
+      respell n (Behind test between) (repeated_to test item next (suc k) state) (λ all ws. nothing [] all ws ⊎ step_spells k state all ws) (up_to (suc k) state) (to_each k state) (from_each k state)
+      (choice n test (Behind test between) (Behind test between) (Behind test between) (step k state) (gives []) (step_spells k state) (nothing [])
+      (in_turn_before n between (Behind test between) (item state) (λ a us. repeated_to test item next k (next state a) us >>= λ others. Ok (a ∷ others.0, others.1)) (spells state) _ (laws n state)
+      (λ a. in_turn_before n (Behind test between) (Behind test between) (repeated_to test item next k (next state a)) (λ all us. Ok (a ∷ all, us)) (up_to k (next state a)) _ (many_laws k n (next state a)) (λ all. nothing_laws n (Behind test between) (a ∷ all)) (λ all bs ws rest s b. rw s.1 b))
       (λ a all ws rest s b. subst between (sym (ap (λ (u : List TokenV). u ++ rest) (flat s))) (comes (next state a) s.value s.front rest s.first_spells.0 b)))
-      (nothing_laws n Behind []) (step_opens k state) none_spelled (λ rest b. b) (λ rest b. b))
+      (nothing_laws n (Behind test between) []) (step_opens k state) none_spelled (λ rest b. b) (λ rest b. b))
     where
       append-nil : (xs : List TokenV) → xs ++ [] ≡ xs
       append-nil [] = refl

@@ -19,6 +19,11 @@ anything rest = Unit {0}
 abbrev pub unless_next : (TokenV → Bool) → Follow
 unless_next test rest = next_is test rest ≡ false
 
+-- both: no further item follows, and what must stand behind the last one does
+pub record Behind (test : TokenV → Bool) (last : Follow) (rest : List TokenV) : Type 0 where
+  pub none : next_is test rest ≡ false
+  pub fits : last rest
+
 -- the same tokens are read, or more are needed
 abbrev pub ReadsAll : {A : Type 0} → Outcome A → A → Type 0
 ReadsAll read a = (read ≡ Ok (a, [])) ⊎ (read ≡ Err Ended)
