@@ -1,0 +1,5 @@
+//! The canonical text of a module.
+#![tactic(auto)]
+
+mod nested;
+mod spelling;
