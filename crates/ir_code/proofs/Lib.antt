@@ -1,0 +1,4 @@
+pub mod Going
+pub mod Zeros
+pub mod Items
+pub mod Values

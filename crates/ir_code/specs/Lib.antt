@@ -1,2 +1,4 @@
 pub mod Strides
 pub mod Fixed
+pub mod Leading
+pub mod Walking

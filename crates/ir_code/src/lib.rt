@@ -2,4 +2,6 @@
 #![tactic(auto)]
 
 pub mod code;
+pub mod fixed;
 pub mod op;
+pub mod strides;
