@@ -1,2 +1,6 @@
 pub mod Tables
 pub mod Noted
+pub mod Going
+pub mod Zeros
+pub mod Items
+pub mod Values

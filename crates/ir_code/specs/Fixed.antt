@@ -1,12 +1,12 @@
 -- Constants as registers hold them.
-use Rattle.std.specs.Prelude.{ℕ, ◌≡◌, ◌<◌, ◌+◌, ◌&&◌, nat_eq, nat_le, Bool, false, if◌then◌else◌, ℤ, pos, List, [], ◌∷◌, length, slice_get, slice_index_or, Option, Some, None, option_and_then, option_map}
+use Rattle.std.specs.Prelude.{ℕ, ◌≡◌, ◌<◌, ◌+◌, ◌&&◌, nat_le, Bool, false, if◌then◌else◌, ℤ, pos, List, [], ◌∷◌, length, slice_get, slice_index_or, Option, Some, None, option_and_then, option_map}
 use Rattle.std.specs.Int.{w64, int_wrapping_add, int_wrapping_mul, cast_signed}
 use Rattle.std.specs.Ordering.{int_eq}
 use Rattle.std.specs.Option.{option_map_or}
 use Rattle.pv_base.specs.declared.name.Name.{Name}
-use Rattle.int_num.specs.Integer.{Integer, signed}
+use Rattle.int_num.specs.Integer.{signed}
 use Rattle.ir_tree.specs.Table.{Table, same_name}
-use Rattle.ir_tree.specs.Trees.{TypeV, IntV, PtrV, VoidV, ArrayV, StructV, NamedV}
+use Rattle.ir_tree.specs.Trees.{TypeV, IntV, PtrV}
 use Rattle.ir_tree.specs.Trees.{ConstantV, IntegerC, NullC, ZeroC, TextC, ArrayC, StructC, NameC, AddressC, ElementsV, NoneC, MoreC}
 use Rattle.ir_tree.specs.Naming.{type_at, constant_at}
 use Rattle.ir_tree.specs.Modules.{Items, types_of}

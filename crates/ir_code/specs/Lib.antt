@@ -9,3 +9,5 @@ pub mod Blocks
 pub mod Coding
 pub mod Strides
 pub mod Fixed
+pub mod Leading
+pub mod Walking

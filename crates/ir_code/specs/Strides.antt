@@ -1,8 +1,8 @@
 -- Addresses as bytes: what each index of `getelementptr` adds, after the LLVM Language Reference.
-use Rattle.std.specs.Prelude.{ℕ, zero, suc, ◌+◌, nat_eq, if◌then◌else◌, List, [], ◌∷◌, Option, Some, None, option_and_then, option_map}
+use Rattle.std.specs.Prelude.{ℕ, nat_eq, if◌then◌else◌, List, [], ◌∷◌, Option, Some, None, option_and_then, option_map}
 use Rattle.pv_base.specs.declared.name.Name.{Name}
 use Rattle.ir_tree.specs.declared.items.NamedType.{NamedType}
-use Rattle.ir_tree.specs.Trees.{TypeV, IntV, PtrV, VoidV, ArrayV, StructV, NamedV, TypesV, NoneV, MoreV}
+use Rattle.ir_tree.specs.Trees.{TypeV, ArrayV, StructV, TypesV}
 use Rattle.ir_tree.specs.Layouts.{layout_of, offset_of, opened, field_type}
 use Rattle.int_num.specs.Integer.{Integer}
 use Rattle.ir_code.specs.declared.op.Fixed.{Fixed}

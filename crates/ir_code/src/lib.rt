@@ -7,3 +7,6 @@ mod families;
 pub mod lookups;
 pub mod op;
 pub mod places;
+pub mod fixed;
+pub mod op;
+pub mod strides;

@@ -129,6 +129,7 @@ pub record Found : Type 0 where
 pub record IsFound (t : Table) (ns : List (NamedType ℕ ℕ)) (f : Found) : Type 0 where
   pub within : All (NamedWithin t) ns
   pub layouts : AreLayouts t ns f.layouts
+  pub bounded : AreBounded f.layouts
   pub bodies : AreBodies ns (length t.names) f.bodies
   pub places : AllPlaces t f.layouts (length t.types) f.places
 

@@ -1,6 +1,7 @@
 //! A module: its names, types and items, with what is found once of them.
 ghost use Rattle.std.specs.Prelude.{◌≡◌, ◌<◌, length, All, IfOk, IfSome, Some, IsSome, option_map};
 ghost use Rattle.ir_tree.specs.Filling.{NamedWithin};
+ghost use Rattle.ir_tree.specs.Bounds.{IsLayout};
 ghost use Rattle.ir_tree.specs.Layouts.{opened};
 ghost use Rattle.ir_tree.specs.Naming.{type_at};
 ghost use Rattle.ir_tree.specs.Modules.{layout_in, offset_in, types_of};
@@ -89,6 +90,13 @@ impl Module {
         self.layouts.of(of)
     }
 
+    fn is_bounded(&self, of: TypeId)
+        requires { of < length self.now.names.types }
+        ensures { IfSome (layout_in self.now of) IsLayout }
+    {
+        let _ = &self.layouts;
+    }
+
     fn opened(&self, of: TypeId) -> Option<TypeId>
         requires { of < length self.now.names.types }
         ensures body { option_map (type_at self.now.names) result ≡ opened (types_of self.now) (type_at self.now.names of) }
@@ -119,6 +127,14 @@ pub fn layout(tree: &Module, of: TypeId) -> Option<Layout>
     ensures { result ≡ layout_in tree.now of }
 {
     tree.layout(of)
+}
+
+/// A layout has a size below 2^63 and an alignment of 1 to 8.
+pub fn layout_is_bounded(tree: &Module, of: TypeId)
+    requires { of < length tree.now.names.types }
+    ensures { IfSome (layout_in tree.now of) IsLayout }
+{
+    tree.is_bounded(of);
 }
 
 /// The offset in bytes of a field of a struct, which may be named. It takes no memory, and only looks up.
