@@ -20,7 +20,7 @@ use Rattle.ir_code.specs.declared.code.BlockCode.{BlockCode}
 use Rattle.ir_code.specs.Options.{◌>>=◌, every}
 use Rattle.ir_code.specs.Places.{place_of}
 use Rattle.ir_code.specs.Tables.{Tables, scalar_at, scalar_or_pointer}
-use Rattle.ir_code.specs.Families.{register, operand_at, binary, cast, freeze, compare, select, alloca, load, store, call, return_of, jump, branch, switch}
+use Rattle.ir_code.specs.Families.{operand_at, binary, cast, freeze, compare, select, alloca, load, store, call, return_of, jump, branch, switch}
 use Rattle.ir_code.specs.Addresses.{address}
 
 -- a register: its name, which a parameter of a declaration may lack, and its type
@@ -127,7 +127,7 @@ module _ (s : Scope) where
   -- what a phi's register takes on an edge from the block of this label
   abbrev pub move_of : ℕ → Join → Option Move
   move_of label j = do
-    r ← register s.tables s.registers j.to
+    r ← place_of s.registers j.to
     of ← scalar_at s.tables j.of
     arm ← arm_from label j.arms
     value ← operand_at s.tables s.registers of arm

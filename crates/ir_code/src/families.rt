@@ -1,6 +1,6 @@
 //! Each instruction with its names resolved, by families. `None` where it breaks a rule of modules.
 ghost use Rattle.std.specs.Prelude.{◌≡◌, ◌++◌, ◌∷◌, [], IfOk, OnOk, OnErr};
-ghost use Rattle.ir_code.specs.Families.{width_of, bits_of, is_stored, stored, call_of, register, operand_at, argument_at, binary, cast, freeze, compare, select, count_of, alloca, load, store, result_register, arguments_at, return_of};
+ghost use Rattle.ir_code.specs.Families.{width_of, bits_of, stored, operand_at, argument_at, binary, cast, freeze, compare, select, count_of, alloca, load, store, arguments_at, return_of};
 
 use crate::lookups::Lookups;
 use crate::op::{Fixed, Op, Operand, Scalar};

@@ -1,6 +1,7 @@
 //! A module with its names resolved: what the machine runs.
 #![tactic(auto)]
 
+mod calls;
 pub mod cases;
 pub mod code;
 mod families;
