@@ -1,3 +1,4 @@
 pub mod Tables
 pub mod Noted
 pub mod Every
+pub mod Switching

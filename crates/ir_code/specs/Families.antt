@@ -70,10 +70,25 @@ count_of t (Some a) = constant_count t a.of a.value
 abbrev pub parameters_at : Tables → List (Argument ℕ ℕ ℕ) → Option (List Scalar)
 parameters_at t arguments = every (λ a. scalar_at t a.of) arguments
 
+-- a jump, over the edge of each label that the function has
+abbrev pub jump : (ℕ → Option ℕ) → ℕ → Option Op
+jump exit x = option_map op.Jump (exit x)
+
 -- the register of a call's result, where it has one
 abbrev pub result_register : List (Option ℕ) → Option ℕ → Option (Option ℕ)
 result_register registers None = Some None
 result_register registers (Some x) = option_map Some (place_of registers x)
+
+-- a case's bits and edge, at a type
+abbrev pub case_at : Tables → (ℕ → Option ℕ) → Scalar → Case ℕ ℕ → Option (ℕ × ℕ)
+case_at t exit of c = do
+  n ← fixed_at t of c.value
+  bits ← bits_of n
+  edge ← exit c.to
+  Some (bits, edge)
+
+abbrev pub cases_at : Tables → (ℕ → Option ℕ) → Scalar → List (Case ℕ ℕ) → Option (List (ℕ × ℕ))
+cases_at t exit of cases = option_map (fold (λ done c. with_case done c.0 c.1) []) (every (case_at t exit of) cases)
 
 -- over what was found of the module, and the names of the function's registers
 module _ (t : Tables) (registers : List (Option ℕ)) where
@@ -182,9 +197,6 @@ module _ (t : Tables) (registers : List (Option ℕ)) where
 
   -- over the edge of each label that the function has
   module _ (exit : ℕ → Option ℕ) where
-    abbrev pub jump : ℕ → Option Op
-    jump x = option_map op.Jump (exit x)
-
     abbrev pub branch : Named ℕ ℕ → ℕ → ℕ → Option Op
     branch condition x y = do
       c ← operand_at (scalar.Int 1) condition
@@ -192,21 +204,10 @@ module _ (t : Tables) (registers : List (Option ℕ)) where
       b ← exit y
       Some (op.Branch c a b)
 
-    -- a case's bits and edge
-    abbrev pub case_at : Scalar → Case ℕ ℕ → Option (ℕ × ℕ)
-    case_at of c = do
-      n ← fixed_at t of c.value
-      bits ← bits_of n
-      edge ← exit c.to
-      Some (bits, edge)
-
-    abbrev pub cases_at : Scalar → List (Case ℕ ℕ) → Option (List (ℕ × ℕ))
-    cases_at of cases = option_map (fold (λ done c. with_case done c.0 c.1) []) (every (case_at of) cases)
-
     abbrev pub switch : ℕ → Named ℕ ℕ → ℕ → List (Case ℕ ℕ) → Option Op
     switch of value default cases = do
       s ← scalar_at t of
       a ← operand_at s value
       d ← exit default
-      all ← cases_at s cases
+      all ← cases_at t exit s cases
       Some (op.Switch a d all)

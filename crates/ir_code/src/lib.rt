@@ -4,6 +4,7 @@
 mod calls;
 pub mod cases;
 pub mod code;
+mod exits;
 mod families;
 pub mod lookups;
 pub mod op;
