@@ -4,3 +4,5 @@ pub mod Going
 pub mod Zeros
 pub mod Items
 pub mod Values
+pub mod Every
+pub mod Switching

@@ -18,9 +18,9 @@ use Rattle.ir_code.specs.declared.code.Move.{Move}
 use Rattle.ir_code.specs.declared.code.Edge.{Edge}
 use Rattle.ir_code.specs.declared.code.BlockCode.{BlockCode}
 use Rattle.ir_code.specs.Options.{◌>>=◌, every}
-use Rattle.ir_code.specs.Places.{place_of}
+use Rattle.ir_code.specs.Places.{place_of, exit_at}
 use Rattle.ir_code.specs.Tables.{Tables, scalar_at, scalar_or_pointer}
-use Rattle.ir_code.specs.Families.{register, operand_at, binary, cast, freeze, compare, select, alloca, load, store, call, return_of, jump, branch, switch}
+use Rattle.ir_code.specs.Families.{operand_at, binary, cast, freeze, compare, select, alloca, load, store, call, return_of, jump, branch, switch}
 use Rattle.ir_code.specs.Addresses.{address}
 
 -- a register: its name, which a parameter of a declaration may lack, and its type
@@ -127,7 +127,7 @@ module _ (s : Scope) where
   -- what a phi's register takes on an edge from the block of this label
   abbrev pub move_of : ℕ → Join → Option Move
   move_of label j = do
-    r ← register s.tables s.registers j.to
+    r ← place_of s.registers j.to
     of ← scalar_at s.tables j.of
     arm ← arm_from label j.arms
     value ← operand_at s.tables s.registers of arm
@@ -149,13 +149,6 @@ module _ (s : Scope) where
   abbrev pub edges_of : Block ℕ ℕ ℕ → List Edge
   edges_of b = fold (with_exit b.label) [] (flat_map exits_of b.instructions)
 
-  -- the number of the edge to the block of a label, where this block's edges lead so and are numbered from `first` on
-  abbrev pub exit_at : ℕ → List (Option ℕ) → ℕ → Option ℕ
-  exit_at first targets exit = do
-    to ← place_of s.labels exit
-    place ← place_of targets to
-    Some (first + place)
-
   -- an instruction that is no phi of those that its block begins with
   unfoldable pub resolved : (ℕ → Option ℕ) → Instruction ℕ ℕ ℕ → Option Op
   resolved exit (tree.Binary to what flags of left right) = binary s.tables s.registers to what flags of left right
@@ -170,7 +163,7 @@ module _ (s : Scope) where
   resolved exit (tree.Address to inbounds of base indices) = address s.items s.tables s.registers to inbounds of base indices
   resolved exit (tree.Call to of variadic what arguments) = call s.tables s.registers to of what arguments
   resolved exit (tree.Return value) = return_of s.tables s.registers value
-  resolved exit (tree.Jump target) = jump s.tables s.registers exit target
+  resolved exit (tree.Jump target) = jump exit target
   resolved exit (tree.Branch condition on_true on_false) = branch s.tables s.registers exit condition on_true on_false
   resolved exit (tree.Switch of value default cases) = switch s.tables s.registers exit of value default cases
   resolved exit tree.Unreachable = Some op.Unreachable
@@ -182,7 +175,7 @@ module _ (s : Scope) where
   abbrev pub block_of : ℕ → ℕ → Block ℕ ℕ ℕ → BlockCode
   block_of first first_edge b =
       let joins = joins_of b.instructions in
-      let exit = exit_at first_edge (targets_of (edges_of b)) in
+      let exit = exit_at s.labels (targets_of (edges_of b)) first_edge in
       record {
         first = first;
         phis = length joins;

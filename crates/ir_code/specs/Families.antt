@@ -66,14 +66,35 @@ abbrev pub count_of : Tables → Option (Argument ℕ ℕ ℕ) → Option ℕ
 count_of t None = Some 1
 count_of t (Some a) = constant_count t a.of a.value
 
+-- the types of arguments
+abbrev pub parameters_at : Tables → List (Argument ℕ ℕ ℕ) → Option (List Scalar)
+parameters_at t arguments = every (λ a. scalar_at t a.of) arguments
+
+-- a jump, over the edge of each label that the function has
+abbrev pub jump : (ℕ → Option ℕ) → ℕ → Option Op
+jump exit x = option_map op.Jump (exit x)
+
+-- the register of a call's result, where it has one
+abbrev pub result_register : List (Option ℕ) → Option ℕ → Option (Option ℕ)
+result_register registers None = Some None
+result_register registers (Some x) = option_map Some (place_of registers x)
+
+-- a case's bits and edge, at a type
+abbrev pub case_at : Tables → (ℕ → Option ℕ) → Scalar → Case ℕ ℕ → Option (ℕ × ℕ)
+case_at t exit of c = do
+  n ← fixed_at t of c.value
+  bits ← bits_of n
+  edge ← exit c.to
+  Some (bits, edge)
+
+abbrev pub cases_at : Tables → (ℕ → Option ℕ) → Scalar → List (Case ℕ ℕ) → Option (List (ℕ × ℕ))
+cases_at t exit of cases = option_map (fold (λ done c. with_case done c.0 c.1) []) (every (case_at t exit of) cases)
+
 -- over what was found of the module, and the names of the function's registers
 module _ (t : Tables) (registers : List (Option ℕ)) where
-  abbrev pub register : ℕ → Option ℕ
-  register x = place_of registers x
-
   -- an operand of a type
   abbrev pub operand_at : Scalar → Named ℕ ℕ → Option Operand
-  operand_at of (named.Register x) = option_map operand.Register (register x)
+  operand_at of (named.Register x) = option_map operand.Register (place_of registers x)
   operand_at of (named.Constant k) = option_map operand.Constant (fixed_at t of k)
 
   -- an operand that is written with its type
@@ -84,7 +105,7 @@ module _ (t : Tables) (registers : List (Option ℕ)) where
 
   abbrev pub binary : ℕ → BinOp → Flags → ℕ → Named ℕ ℕ → Named ℕ ℕ → Option Op
   binary to what flags of left right = do
-    r ← register to
+    r ← place_of registers to
     s ← scalar_at t of
     a ← operand_at s left
     b ← operand_at s right
@@ -92,7 +113,7 @@ module _ (t : Tables) (registers : List (Option ℕ)) where
 
   abbrev pub cast : ℕ → CastOp → Flags → ℕ → Named ℕ ℕ → ℕ → Option Op
   cast to what flags of value target = do
-    r ← register to
+    r ← place_of registers to
     s ← scalar_at t of
     a ← operand_at s value
     u ← scalar_at t target
@@ -101,14 +122,14 @@ module _ (t : Tables) (registers : List (Option ℕ)) where
 
   abbrev pub freeze : ℕ → ℕ → Named ℕ ℕ → Option Op
   freeze to of value = do
-    r ← register to
+    r ← place_of registers to
     s ← scalar_at t of
     a ← operand_at s value
     Some (op.Freeze r a)
 
   abbrev pub compare : ℕ → Pred → ℕ → Named ℕ ℕ → Named ℕ ℕ → Option Op
   compare to pred of left right = do
-    r ← register to
+    r ← place_of registers to
     s ← scalar_at t of
     a ← operand_at s left
     b ← operand_at s right
@@ -116,7 +137,7 @@ module _ (t : Tables) (registers : List (Option ℕ)) where
 
   abbrev pub select : ℕ → Named ℕ ℕ → ℕ → Named ℕ ℕ → Named ℕ ℕ → Option Op
   select to condition of on_true on_false = do
-    r ← register to
+    r ← place_of registers to
     s ← scalar_at t of
     c ← operand_at (scalar.Int 1) condition
     a ← operand_at s on_true
@@ -125,14 +146,14 @@ module _ (t : Tables) (registers : List (Option ℕ)) where
 
   abbrev pub alloca : ℕ → ℕ → Option (Argument ℕ ℕ ℕ) → Option Op
   alloca to of count = do
-    r ← register to
+    r ← place_of registers to
     size ← size_at t of
     n ← count_of t count
     Some (op.Alloca r (min (size * n) (2 ^ 64 - 1)))
 
   abbrev pub load : ℕ → ℕ → Named ℕ ℕ → Option Op
   load to of pointer = do
-    r ← register to
+    r ← place_of registers to
     s ← scalar_at t of
     u ← stored s
     p ← operand_at scalar.Pointer pointer
@@ -146,18 +167,13 @@ module _ (t : Tables) (registers : List (Option ℕ)) where
     p ← operand_at scalar.Pointer pointer
     Some (op.Store u a p)
 
-  -- the register of a call's result: None where it has no result, and Some None never
-  abbrev pub result_register : Option ℕ → Option (Option ℕ)
-  result_register None = Some None
-  result_register (Some x) = option_map Some (register x)
-
   abbrev pub arguments_at : List (Argument ℕ ℕ ℕ) → Option (List Operand)
   arguments_at arguments = every argument_at arguments
 
   -- a call of a function by its name
   abbrev pub call_named : Option ℕ → ℕ → List (Argument ℕ ℕ ℕ) → Option Op
   call_named to x arguments = do
-    r ← result_register to
+    r ← result_register registers to
     function ← place_of t.functions x
     values ← arguments_at arguments
     call_of r values function (slice_index_or t.linkages function linkage.Unknown)
@@ -165,10 +181,10 @@ module _ (t : Tables) (registers : List (Option ℕ)) where
   -- a call through a register, at the type that it is written with
   abbrev pub call_pointer : Option ℕ → ℕ → ℕ → List (Argument ℕ ℕ ℕ) → Option Op
   call_pointer to of x arguments = do
-    r ← result_register to
-    p ← register x
+    r ← result_register registers to
+    p ← place_of registers x
     values ← arguments_at arguments
-    parameters ← every (λ a. scalar_at t a.of) arguments
+    parameters ← parameters_at t arguments
     Some (op.CallPointer r (operand.Register p) (scalar_at t of) parameters values)
 
   abbrev pub call : Option ℕ → ℕ → Callee ℕ → List (Argument ℕ ℕ ℕ) → Option Op
@@ -181,9 +197,6 @@ module _ (t : Tables) (registers : List (Option ℕ)) where
 
   -- over the edge of each label that the function has
   module _ (exit : ℕ → Option ℕ) where
-    abbrev pub jump : ℕ → Option Op
-    jump x = option_map op.Jump (exit x)
-
     abbrev pub branch : Named ℕ ℕ → ℕ → ℕ → Option Op
     branch condition x y = do
       c ← operand_at (scalar.Int 1) condition
@@ -191,21 +204,10 @@ module _ (t : Tables) (registers : List (Option ℕ)) where
       b ← exit y
       Some (op.Branch c a b)
 
-    -- a case's bits and edge
-    abbrev pub case_at : Scalar → Case ℕ ℕ → Option (ℕ × ℕ)
-    case_at of c = do
-      n ← fixed_at t of c.value
-      bits ← bits_of n
-      edge ← exit c.to
-      Some (bits, edge)
-
-    abbrev pub cases_at : Scalar → List (Case ℕ ℕ) → Option (List (ℕ × ℕ))
-    cases_at of cases = option_map (fold (λ done c. with_case done c.0 c.1) []) (every (case_at of) cases)
-
     abbrev pub switch : ℕ → Named ℕ ℕ → ℕ → List (Case ℕ ℕ) → Option Op
     switch of value default cases = do
       s ← scalar_at t of
       a ← operand_at s value
       d ← exit default
-      all ← cases_at s cases
+      all ← cases_at t exit s cases
       Some (op.Switch a d all)

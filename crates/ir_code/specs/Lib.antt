@@ -3,6 +3,7 @@ pub mod Places
 pub mod Noting
 pub mod Cases
 pub mod Tables
+pub mod Exits
 pub mod Families
 pub mod Addresses
 pub mod Blocks

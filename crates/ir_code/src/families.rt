@@ -1,6 +1,6 @@
 //! Each instruction with its names resolved, by families. `None` where it breaks a rule of modules.
-ghost use Rattle.std.specs.Prelude.{◌≡◌, ◌<◌, ◌^◌, IfOk, Some};
-ghost use Rattle.ir_code.specs.Families.{width_of, bits_of, is_stored, stored, call_of, register, operand_at, argument_at, binary, cast, freeze, compare, select, count_of, alloca, load, store, result_register, return_of};
+ghost use Rattle.std.specs.Prelude.{◌≡◌, ◌++◌, ◌∷◌, [], IfOk, OnOk, OnErr};
+ghost use Rattle.ir_code.specs.Families.{width_of, bits_of, stored, operand_at, argument_at, binary, cast, freeze, compare, select, count_of, alloca, load, store, arguments_at, return_of};
 
 use crate::lookups::Lookups;
 use crate::op::{Fixed, Op, Operand, Scalar};
@@ -8,6 +8,9 @@ use crate::places::Places;
 use int_num::ops::{BinOp, CastOp, Flags, Pred};
 use ir_tree::instruction::{Argument, Operand as Named};
 use ir_tree::nodes::{NameId, TypeId};
+use pv_base::list::List;
+use pv_base::want::Memory;
+use std::alloc::Global;
 
 fn width_of(of: Scalar) -> Option<u32>
     ensures { result ≡ width_of of }
@@ -259,4 +262,34 @@ pub(crate) fn return_of(
         }
         None => Some(Op::Return { value: None }),
     }
+}
+
+/// Appends an operand, or changes nothing.
+fn push_operand(operands: &mut List<Operand>, operand: Operand) -> Result<(), Memory>
+    ensures ok { OnOk result (operands.new ≡ operands.old ++ operand ∷ []) }
+    ensures err { OnErr result (operands.new ≡ operands.old) }
+{
+    match operand {
+        Operand::Register(register) => operands.push(Operand::Register(register)),
+        Operand::Constant(value) => operands.push(Operand::Constant(value)),
+    }
+}
+
+/// The operands of arguments, where all can be resolved.
+pub(crate) fn arguments(
+    alloc: Global,
+    lookups: &Lookups,
+    registers: &Places,
+    all: &[Argument],
+) -> Result<Option<List<Operand>>, Memory>
+    ensures { IfOk result (λ r. r ≡ arguments_at lookups.now registers.now all.now) }
+{
+    let mut operands = List::new(alloc);
+    for one in all {
+        match argument(lookups, registers, *one) {
+            Some(operand) => push_operand(&mut operands, operand)?,
+            None => return Ok(None),
+        }
+    }
+    Ok(Some(operands))
 }

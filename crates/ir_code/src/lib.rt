@@ -1,8 +1,10 @@
 //! A module with its names resolved: what the machine runs.
 #![tactic(auto)]
 
+mod calls;
 pub mod cases;
 pub mod code;
+mod exits;
 mod families;
 pub mod lookups;
 pub mod op;
