@@ -5,3 +5,4 @@ pub mod cursor;
 pub mod fault;
 pub mod leaves;
 pub mod names;
+pub mod passed;
