@@ -100,7 +100,7 @@ module _ (stop : TokenV → Bool) where
   when_is true s a ws w = refl
   when_is false s a ws w = absurd w
 
-  passed_opens : (a : Unit {0}) (ws : List TokenV) → passed_unless stop a ws → Opens (may_pass stop) ws
+  pub passed_opens : (a : Unit {0}) (ws : List TokenV) → passed_unless stop a ws → Opens (may_pass stop) ws
   passed_opens a ws s = record { token = s.token; rest = s.rest; parts = s.parts; is = when_is (may_pass stop s.token) _ a s.rest s.rest_spells }
 
   not_other : (b : ℕ) (text : List ℕ) → punct_is (35 ∷ []) kind.Punct text ≡ true → punct_is (b ∷ []) kind.Punct (35 ∷ []) ≡ false → punct_is (b ∷ []) kind.Punct text ≡ false

@@ -6,3 +6,4 @@ pub mod fault;
 pub mod leaves;
 pub mod names;
 pub mod passed;
+pub mod tails;
