@@ -1,5 +1,5 @@
 -- Groups in brackets keep the laws.
-use Rattle.std.proofs.Common.{◌≡◌, ℕ, suc, ◌-◌, ◌≤◌, length, Bool, true, false, cond, leb, List, [], ◌∷◌, ◌++◌, Result, Ok, Err, refl, sym, ap, subst, ◌∙◌, inl, inr}
+use Rattle.std.proofs.Common.{◌≡◌, ℕ, suc, ◌-◌, ◌≤◌, length, arith, Bool, true, false, cond, leb, List, [], ◌∷◌, ◌++◌, Result, Ok, Err, refl, sym, ap, subst, ◌∙◌, inl, inr}
 use Rattle.std.proofs.lemmas.Bool.{cases_Bool}
 use Rattle.std.proofs.lemmas.List.{append-nil}
 use Rattle.std.specs.Bool.{MatchBool}
@@ -30,19 +30,19 @@ abbrev SameReading : ℕ → ℕ → TokenV → Type 0
 SameReading depth other t = (us : List TokenV) → group_from depth (t ∷ us) ≡ group_from other us
 
 module _ (depth : ℕ) (t : TokenV) where
-  opened : is_opening t ≡ true → SameReading depth (suc depth) t
+  pub opened : is_opening t ≡ true → SameReading depth (suc depth) t
   unfolding group_from
   opened o us = rw o refl
 
-  inner : is_opening t ≡ false → is_closing t ≡ true → leb depth 1 ≡ false → SameReading depth (depth - 1) t
+  pub inner : is_opening t ≡ false → is_closing t ≡ true → leb depth 1 ≡ false → SameReading depth (depth - 1) t
   unfolding group_from
   inner o c l us = rw (o, c, l) refl
 
-  plain : is_opening t ≡ false → is_closing t ≡ false → SameReading depth depth t
+  pub plain : is_opening t ≡ false → is_closing t ≡ false → SameReading depth depth t
   unfolding group_from
   plain o c us = rw (o, c) refl
 
-  last : is_opening t ≡ false → is_closing t ≡ true → leb depth 1 ≡ true → (us : List TokenV) → group_from depth (t ∷ us) ≡ Ok (tt, us)
+  pub last : is_opening t ≡ false → is_closing t ≡ true → leb depth 1 ≡ true → (us : List TokenV) → group_from depth (t ∷ us) ≡ Ok (tt, us)
   unfolding group_from
   last o c l us = rw (o, c, l) refl
 
@@ -62,7 +62,7 @@ module _ (depth : ℕ) (t : TokenV) where
   unfolding closed_from
   last_spells o c l us = rw (o, c, l) refl
 
-none_open : (depth : ℕ) → group_from depth [] ≡ Err Ended
+pub none_open : (depth : ℕ) → group_from depth [] ≡ Err Ended
 unfolding group_from
 none_open depth = refl
 
@@ -128,3 +128,11 @@ group_laws n depth = record {
   faults = λ ts line cause short e. absurd (no_fault depth ts line cause e);
   begins = inr (none_open depth);
 }
+
+-- what one more token leads to, with so many more open than one
+pub turned : (inner other : ℕ) (t : TokenV) (ts rest : List TokenV) (total : Outcome (Unit {0})) → ts ≡ t ∷ rest → ((us : List TokenV) → group_from inner (t ∷ us) ≡ group_from other us) → group_from inner ts ≡ total → group_from other rest ≡ total
+turned inner other t ts rest total is step so_far = sym (step rest) ∙ ap (group_from inner) (sym is) ∙ so_far
+
+pub ends_open : (inner : ℕ) (ts : List TokenV) → length ts ≤ 0 → group_from inner ts ≡ Err Ended
+ends_open inner [] none = none_open inner
+ends_open inner (t ∷ ts) none = absurd (omega arith)

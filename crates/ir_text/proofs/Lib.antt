@@ -9,3 +9,5 @@ pub mod Groups
 pub mod PassedLaws
 pub mod TailLaws
 pub mod ListLaws
+pub mod Among
+pub mod Eaten

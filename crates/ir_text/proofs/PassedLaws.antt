@@ -1,5 +1,5 @@
 -- What is passed over keeps the laws.
-use Rattle.std.proofs.Common.{◌≡◌, ℕ, suc, ◌≤◌, length, Bool, true, false, cond, List, [], ◌∷◌, ◌++◌, Result, Ok, Err, refl, sym, ap, subst, ◌∙◌, ◌⊎◌, inl, inr}
+use Rattle.std.proofs.Common.{◌≡◌, ℕ, suc, ◌+◌, ◌≤◌, length, Bool, true, false, cond, List, [], ◌∷◌, ◌++◌, Result, Ok, Err, refl, sym, ap, subst, ◌∙◌, ◌⊎◌, inl, inr}
 use Rattle.std.specs.Prelude.{nat_eq}
 use Rattle.std.specs.Cmp.Lexicographic.{pointwise}
 use lib.Pointwise.{bytes_decides}
@@ -8,7 +8,9 @@ use Rattle.ir_lex.specs.declared.token.TokenKind.TheVariants as kind
 use Rattle.ir_lex.specs.declared.token.Cause.TheVariants as causes
 use Rattle.ir_text.specs.declared.fault.Fault.TheVariants.{At, Ended}
 use Rattle.ir_text.specs.Tokens.{TokenV, is_mark, punct_is, is_refused, blamed}
-use Rattle.ir_text.specs.Reading.{Outcome, Reader, ◌>>=◌, next_is, token_by, wrong}
+use Rattle.ir_text.specs.Reading.{Outcome, Reader, ◌>>=◌, next_is, token_by, wrong, Fails}
+use Rattle.ir_text.specs.declared.fault.ReadEnd.{ReadEnd}
+use Rattle.ir_text.specs.declared.fault.ReadEnd.TheVariants as ends
 use Rattle.ir_text.specs.Spelled.{Spelling, InTurn, Led, one_token, nothing, never, when, unless}
 use Rattle.ir_text.specs.Lawful.{Follow, Behind, anything, Lawful, Refuses}
 use Rattle.ir_text.specs.Choice.{choose, Opens}
@@ -19,7 +21,7 @@ use Rattle.ir_text.proofs.Laws.{nothing_laws, in_turn_before}
 use Rattle.ir_text.proofs.Choices.{in_turn, weaken, refusing, led, token_laws}
 use Rattle.ir_text.proofs.ChoiceLaws.{choice, optional, token_opens, opens_more}
 use Rattle.ir_text.proofs.Groups.{group_laws}
-use Rattle.ir_text.proofs.RepeatedLaws.{repeated_laws}
+use Rattle.ir_text.proofs.RepeatedLaws.{repeated_laws, repeated_is}
 
 pub refusing_here : {A : Type 0} (t : TokenV) → Refuses {A = A} (λ rest. wrong t causes.Operand) never t
 refusing_here t = record { cause = blamed t causes.Operand; refused = λ rest. refl; unspelled = λ x ws s. s }
@@ -98,7 +100,7 @@ module _ (stop : TokenV → Bool) where
   when_is true s a ws w = refl
   when_is false s a ws w = absurd w
 
-  passed_opens : (a : Unit {0}) (ws : List TokenV) → passed_unless stop a ws → Opens (may_pass stop) ws
+  pub passed_opens : (a : Unit {0}) (ws : List TokenV) → passed_unless stop a ws → Opens (may_pass stop) ws
   passed_opens a ws s = record { token = s.token; rest = s.rest; parts = s.parts; is = when_is (may_pass stop s.token) _ a s.rest s.rest_spells }
 
   not_other : (b : ℕ) (text : List ℕ) → punct_is (35 ∷ []) kind.Punct text ≡ true → punct_is (b ∷ []) kind.Punct (35 ∷ []) ≡ false → punct_is (b ∷ []) kind.Punct text ≡ false
@@ -141,3 +143,23 @@ module _ (stop : TokenV → Bool) where
 
   pub words_laws : (n : ℕ) → Lawful n (Behind (may_pass stop) AfterPassed) (words_at stop) (some_words stop)
   words_laws n = skipped_laws n (may_pass stop) (passed_at stop) (passed_unless stop) AfterPassed (λ m. passed_laws m stop) passed_opens passed_followed
+
+-- ---- a loop's turns
+
+module _ {A : Type 0} (test : TokenV → Bool) (item : Reader A) (less : (ts : List TokenV) (x : A × List TokenV) → item ts ≡ Ok x → 1 + length x.1 ≤ length ts) where
+  abbrev unkept : Outcome (List A) → Outcome (Unit {0})
+  unkept read = read >>= λ all. Ok (tt, all.1)
+
+  forget : (a : A) (read : Outcome (List A)) → unkept (read >>= λ others. Ok (a ∷ others.0, others.1)) ≡ unkept read
+  forget a (Ok x) = refl
+  forget a (Err e) = refl
+
+  pub skips_on : (ts rest : List TokenV) (x : A) → next_is test ts ≡ true → item ts ≡ Ok (x, rest) → skipped test item ts ≡ skipped test item rest
+  skips_on ts rest x there h = ap unkept (repeated_is test (λ _. item) stays (λ _. less) tt ts) ∙ rw (there, h) (forget x (repeated test item rest))
+
+  pub skips_fails : (e : ReadEnd) (ts : List TokenV) → next_is test ts ≡ true → Fails e (item ts) → Fails e (skipped test item ts)
+  skips_fails ends.Memory ts there h = tt
+  skips_fails (ends.Bad f) ts there h = ap unkept (repeated_is test (λ _. item) stays (λ _. less) tt ts) ∙ rw (there, h) refl
+
+  pub skips_end : (ts : List TokenV) → next_is test ts ≡ false → skipped test item ts ≡ Ok (tt, ts)
+  skips_end ts none = ap unkept (repeated_is test (λ _. item) stays (λ _. less) tt ts) ∙ rw none refl

@@ -4,6 +4,7 @@ pub mod Choice
 pub mod Repeated
 pub mod Lists
 pub mod Passed
+pub mod Stopping
 pub mod Tails
 pub mod Spelled
 pub mod Lawful

@@ -129,8 +129,11 @@ abbrev pub is_type_word : List ℕ → Bool
 is_type_word text = same text (codes "ptr") || same text (codes "void") || is_int_word text
 
 -- the words that are not passed over: these, and where it is said those that begin a type
+unfoldable pub stops_at : List (List ℕ) → Bool → List ℕ → Bool
+stops_at words types text = among words text || (types && is_type_word text)
+
 abbrev pub stops : List (List ℕ) → Bool → TokenV → Bool
-stops words types t = among words t.text || (types && is_type_word t.text)
+stops words types t = stops_at words types t.text
 
 -- ---- how they are spelled
 

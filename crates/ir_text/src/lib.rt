@@ -5,3 +5,5 @@ pub mod cursor;
 pub mod fault;
 pub mod leaves;
 pub mod names;
+pub mod passed;
+pub mod tails;
