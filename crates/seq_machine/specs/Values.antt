@@ -1,5 +1,5 @@
 -- What an operand gives in a frame, and what a register may hold.
-use Rattle.std.specs.Prelude.{ℕ, ◌≡◌, ◌==◌, ◌&&◌, ◌<◌, ◌-◌, ◌^◌, nat_lt, nat_le, nat_eq, List, [], ◌∷◌, ◌++◌, length, map, replicate, slice_get, Option, None, Some, is_some, Result, Ok, Err, Bool, true, false, ℤ, pos, if◌then◌else◌}
+use Rattle.std.specs.Prelude.{ℕ, ◌≡◌, ◌==◌, ◌&&◌, ◌<◌, ◌≤◌, ◌-◌, ◌^◌, nat_lt, nat_le, nat_eq, List, [], ◌∷◌, ◌++◌, length, map, replicate, slice_get, Option, None, Some, is_some, Result, Ok, Err, Bool, true, false, ℤ, pos, if◌then◌else◌}
 use Rattle.std.specs.Ordering.{int_eq}
 use Rattle.int_num.specs.Integer.{Integer, HasWidth}
 use Rattle.int_num.specs.Operations.{of_bits}
@@ -103,6 +103,10 @@ IsOf scalar.Pointer (Pointer p) = Unit {0}
 pub record AreOf (types : List Scalar) (registers : List (Option Value)) : Type 0 where
   pub count : length registers ≡ length types
   pub each : (i : ℕ) (t : Scalar) (v : Value) → slice_get types i ≡ Some t → slice_get registers i ≡ Some (Some v) → IsOf t v
+
+-- each value is of the type that stands at its place
+abbrev pub HaveTypes : List Scalar → List Value → Type 0
+HaveTypes types values = (length values ≤ length types) × ((i : ℕ) (t : Scalar) (v : Value) → slice_get types i ≡ Some t → slice_get values i ≡ Some v → IsOf t v)
 
 -- ---- what is given
 

@@ -3,4 +3,7 @@
 
 pub mod state;
 pub mod values;
+pub mod words;
+pub mod accesses;
+pub mod flow;
 pub mod numbers;
