@@ -14,20 +14,23 @@ use Rattle.ir_tree.specs.Modules.{Items}
 use Rattle.ir_tree.specs.Shown.{shown_named, shown_global, shown_function}
 use Rattle.ir_printer.specs.Pieces.{Piece, Blank, LineEnd, Word, Mark, Dots, Global, Local, Label, spelled, bytes_of, separated, joined}
 use Rattle.ir_printer.specs.Operands.{type_pieces, constant_pieces}
-use Rattle.ir_printer.specs.Instructions.{instruction_pieces}
+use Rattle.ir_printer.specs.Instructions.{assigned, typed, instruction_pieces}
 
 -- `%name = type T`
 abbrev pub named_pieces : NamedType Name TypeV → List Piece
-named_pieces n = Local n.name ∷ Blank ∷ Mark 61 ∷ Blank ∷ Word (codes "type") ∷ Blank ∷ type_pieces n.of ++ LineEnd ∷ []
+named_pieces n = assigned n.name (codes "type") ++ typed n.of ++ (LineEnd ∷ [])
 
 abbrev pub global_word : Bool → List ℕ
 global_word false = codes "global"
 global_word true = codes "constant"
 
+-- `@name = global`
+abbrev pub global_start : Name → Bool → List Piece
+global_start name constant = Global name ∷ Blank ∷ Mark 61 ∷ Blank ∷ Word (global_word constant) ∷ []
+
 -- `@name = global T INIT`
 abbrev pub global_pieces : GlobalItem Name TypeV ConstantV → List Piece
-global_pieces g =
-    Global g.name ∷ Blank ∷ Mark 61 ∷ Blank ∷ Word (global_word g.constant) ∷ Blank ∷ type_pieces g.of ++ Blank ∷ constant_pieces g.init ++ LineEnd ∷ []
+global_pieces g = global_start g.name g.constant ++ typed g.of ++ (Blank ∷ constant_pieces g.init) ++ (LineEnd ∷ [])
 
 -- the name of a parameter behind a blank, where it has one
 abbrev pub param_name : Option Name → List Piece
@@ -43,13 +46,17 @@ abbrev pub variadic_param : Bool → List (List Piece)
 variadic_param false = []
 variadic_param true = (Dots ∷ []) ∷ []
 
+-- the parameters, with commas between them
+abbrev pub params_pieces : List (Param Name TypeV) → Bool → List Piece
+params_pieces params variadic = separated (map param_pieces params ++ variadic_param variadic)
+
 -- `T @name(PARAMS)`
 abbrev pub head_pieces : Function Name TypeV ConstantV → List Piece
-head_pieces f = type_pieces f.result ++ Blank ∷ Global f.name ∷ Mark 40 ∷ separated (map param_pieces f.params ++ variadic_param f.variadic) ++ Mark 41 ∷ []
+head_pieces f = type_pieces f.result ++ (Blank ∷ Global f.name ∷ Mark 40 ∷ []) ++ params_pieces f.params f.variadic ++ (Mark 41 ∷ [])
 
 -- an instruction on its line, behind two blanks
 abbrev pub instruction_line : Instruction Name TypeV ConstantV → List Piece
-instruction_line i = Blank ∷ Blank ∷ instruction_pieces i ++ LineEnd ∷ []
+instruction_line i = (Blank ∷ Blank ∷ instruction_pieces i) ++ (LineEnd ∷ [])
 
 -- a block: its label on a line, and its instructions
 abbrev pub block_pieces : Block Name TypeV ConstantV → List Piece
@@ -57,8 +64,8 @@ block_pieces b = Label b.label ∷ LineEnd ∷ joined (map instruction_line b.in
 
 -- `declare HEAD`, or `define HEAD {`, the blocks, and `}` on a line
 abbrev pub defined_pieces : Bool → List Piece → List Piece → List Piece
-defined_pieces true head blocks = Word (codes "declare") ∷ Blank ∷ head ++ LineEnd ∷ []
-defined_pieces false head blocks = Word (codes "define") ∷ Blank ∷ head ++ Blank ∷ Mark 123 ∷ LineEnd ∷ blocks ++ Mark 125 ∷ LineEnd ∷ []
+defined_pieces true head blocks = (Word (codes "declare") ∷ Blank ∷ head) ++ (LineEnd ∷ [])
+defined_pieces false head blocks = (Word (codes "define") ∷ Blank ∷ head) ++ (Blank ∷ Mark 123 ∷ LineEnd ∷ blocks) ++ (Mark 125 ∷ LineEnd ∷ [])
 
 unfoldable pub function_pieces : Function Name TypeV ConstantV → List Piece
 function_pieces f = defined_pieces f.declared (head_pieces f) (joined (map block_pieces f.blocks))

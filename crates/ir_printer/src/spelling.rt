@@ -1,11 +1,11 @@
 //! Names, numbers and strings as the canonical text spells them.
-ghost use Rattle.std.specs.Prelude.{◌≡◌, ◌<◌, ◌++◌, ◌∷◌, pos, OnOk, decimal};
+ghost use Rattle.std.specs.Prelude.{◌≡◌, ◌<◌, ◌++◌, ◌∷◌, [], pos, OnOk, decimal};
 ghost use Rattle.std.specs.Fmt.{signed_decimal};
 ghost use Rattle.std.specs.List.{list_all};
 ghost use Rattle.ir_lex.specs.Classes.{is_name_byte};
 ghost use Rattle.int_num.specs.Integer.{signed};
 ghost use Rattle.ir_tree.specs.Naming.{name_at};
-ghost use Rattle.ir_printer.specs.Pieces.{Global, Label, Local, upper_hex, escaped_byte, escaped, quoted, is_plain, name_text, spelled};
+ghost use Rattle.ir_printer.specs.Pieces.{Global, Label, Local, upper_hex, escaped_byte, escaped, quoted, is_plain, name_text, bytes_of};
 ghost use Rattle.ir_printer.specs.Operands.{integer_piece};
 
 use int_num::int::Int;
@@ -43,7 +43,7 @@ fn put_signed(to: &mut Bytes, n: i64) -> Result<(), Memory>
 /// An integer in signed decimal, and of one bit as `true` or `false`.
 #[tactic(auto, unfolding(crate::specs::Operands::integer_piece))]
 pub(crate) fn put_integer(to: &mut Bytes, n: Int) -> Result<(), Memory>
-    ensures { OnOk result (to.new ≡ to.old ++ spelled (integer_piece n)) }
+    ensures { OnOk result (to.new ≡ to.old ++ bytes_of (integer_piece n ∷ [])) }
 {
     if n.width() != 1 {
         put_signed(to, signed(n))
@@ -137,7 +137,7 @@ fn put_numbered(to: &mut Bytes, names: &Names, name: NameId) -> Result<(), Memor
 
 /// `@name`
 pub(crate) fn put_global(to: &mut Bytes, names: &Names, name: NameId) -> Result<(), Memory>
-    ensures { OnOk result (to.new ≡ to.old ++ spelled (Global (name_at names.now name))) }
+    ensures { OnOk result (to.new ≡ to.old ++ bytes_of (Global (name_at names.now name) ∷ [])) }
 {
     to.push(b'@')?;
     put_numbered(to, names, name)
@@ -145,7 +145,7 @@ pub(crate) fn put_global(to: &mut Bytes, names: &Names, name: NameId) -> Result<
 
 /// `%name`
 pub(crate) fn put_local(to: &mut Bytes, names: &Names, name: NameId) -> Result<(), Memory>
-    ensures { OnOk result (to.new ≡ to.old ++ spelled (Local (name_at names.now name))) }
+    ensures { OnOk result (to.new ≡ to.old ++ bytes_of (Local (name_at names.now name) ∷ [])) }
 {
     to.push(b'%')?;
     put_numbered(to, names, name)
@@ -153,7 +153,7 @@ pub(crate) fn put_local(to: &mut Bytes, names: &Names, name: NameId) -> Result<(
 
 /// `name:`
 pub(crate) fn put_label(to: &mut Bytes, names: &Names, name: NameId) -> Result<(), Memory>
-    ensures { OnOk result (to.new ≡ to.old ++ spelled (Label (name_at names.now name))) }
+    ensures { OnOk result (to.new ≡ to.old ++ bytes_of (Label (name_at names.now name) ∷ [])) }
 {
     put_numbered(to, names, name)?;
     to.push(b':')

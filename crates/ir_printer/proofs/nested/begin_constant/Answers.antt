@@ -13,8 +13,8 @@ use Rattle.ir_printer.proofs.nested.begin_constant.Goals as goal
 pub returns-in-Integer : goal.returns-in-Integer
 unfolding constant_pieces
 returns-in-Integer c =
-    put_none c.args.names.now c.args.to.now c.put_integer.new.to (spelled (integer_piece c.in-Integer.value)) c.args.stack.now _ c.put_integer.result c.put_integer.ensures
-    (rw c.in-Integer.is (sym (append-nil _)))
+    put_none c.args.names.now c.args.to.now c.put_integer.new.to (bytes_of (integer_piece c.in-Integer.value ∷ [])) c.args.stack.now _ c.put_integer.result c.put_integer.ensures
+    (rw c.in-Integer.is refl)
 
 pub returns-in-Null : goal.returns-in-Null
 unfolding constant_pieces
@@ -44,8 +44,8 @@ returns-in_ok-put_opening-in-Struct c =
 pub returns-in-Name : goal.returns-in-Name
 unfolding constant_pieces
 returns-in-Name c =
-    put_none c.args.names.now c.args.to.now c.put_global.new.to (spelled (Global (name_at c.args.names.now c.in-Name.name))) c.args.stack.now _ c.put_global.result c.put_global.ensures
-    (rw c.in-Name.is (sym (append-nil _)))
+    put_none c.args.names.now c.args.to.now c.put_global.new.to (bytes_of (Global (name_at c.args.names.now c.in-Name.name) ∷ [])) c.args.stack.now _ c.put_global.result c.put_global.ensures
+    (rw c.in-Name.is refl)
 
 pub returns-in-Address : goal.returns-in-Address
 returns-in-Address c =

@@ -36,5 +36,5 @@ returns-in_ok-put_opening-in-Struct c =
 pub returns-in-Named : goal.returns-in-Named
 unfolding type_pieces
 returns-in-Named c =
-    put_none c.args.names.now c.args.to.now c.put_local.new.to (spelled (Local (name_at c.args.names.now c.in-Named.name))) c.args.stack.now _ c.put_local.result c.put_local.ensures
-    (rw c.in-Named.is (sym (append-nil _)))
+    put_none c.args.names.now c.args.to.now c.put_local.new.to (bytes_of (Local (name_at c.args.names.now c.in-Named.name) ∷ [])) c.args.stack.now _ c.put_local.result c.put_local.ensures
+    (rw c.in-Named.is refl)
