@@ -293,6 +293,8 @@ fn words_of_faults(rt: HostRuntime) -> Result<(), Fail> {
     laws::reads_give_all();
     laws::writes_read_back();
     laws::writes_leave_others();
+    laws::copies_are_writes();
+    laws::fills_are_writes();
     laws::made_takes_next();
     laws::null_is_past_limit();
     laws::released_is_dead();
