@@ -7,4 +7,5 @@ pub mod Exits
 pub mod Families
 pub mod Addresses
 pub mod Blocks
+pub mod Adding
 pub mod Coding

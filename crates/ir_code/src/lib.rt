@@ -4,8 +4,11 @@
 mod calls;
 pub mod cases;
 pub mod code;
+mod edges;
 mod exits;
 mod families;
+mod joins;
 pub mod lookups;
 pub mod op;
 pub mod places;
+mod scope;
