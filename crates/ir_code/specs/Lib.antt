@@ -9,3 +9,7 @@ pub mod Addresses
 pub mod Blocks
 pub mod Adding
 pub mod Coding
+pub mod Strides
+pub mod Fixed
+pub mod Leading
+pub mod Walking

@@ -12,3 +12,6 @@ pub mod lookups;
 pub mod op;
 pub mod places;
 mod scope;
+pub mod fixed;
+pub mod op;
+pub mod strides;

@@ -1,0 +1,4 @@
+pub mod Spelled
+pub mod Stacks
+pub mod Parts
+pub mod Bracketing

@@ -1,0 +1,3 @@
+pub mod WordLoops
+pub mod Follow
+pub mod Operands

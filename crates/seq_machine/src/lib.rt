@@ -1,0 +1,9 @@
+//! The sequential machine: one step over any memory, and the run of a program.
+#![tactic(auto)]
+
+pub mod state;
+pub mod values;
+pub mod words;
+pub mod accesses;
+pub mod flow;
+pub mod numbers;
