@@ -6,3 +6,5 @@ pub mod Items
 pub mod Values
 pub mod Every
 pub mod Switching
+pub mod Arms
+pub mod Growing

@@ -19,6 +19,7 @@ use Rattle.ir_code.specs.declared.code.Edge.{Edge}
 use Rattle.ir_code.specs.declared.code.BlockCode.{BlockCode}
 use Rattle.ir_code.specs.Options.{◌>>=◌, every}
 use Rattle.ir_code.specs.Places.{place_of, exit_at}
+use Rattle.ir_code.specs.Exits.{Leading}
 use Rattle.ir_code.specs.Tables.{Tables, scalar_at, scalar_or_pointer}
 use Rattle.ir_code.specs.Families.{operand_at, binary, cast, freeze, compare, select, alloca, load, store, call, return_of, jump, branch, switch}
 use Rattle.ir_code.specs.Addresses.{address}
@@ -110,11 +111,8 @@ exits_of tree.Unreachable = []
 abbrev pub arm_from : ℕ → List (Arm ℕ ℕ) → Option (Named ℕ ℕ)
 arm_from label arms = option_map (λ a. a.value) (find (λ a. nat_eq label a.from) arms)
 
--- what a function's blocks are resolved in: the module, what was found of it, the names of the function's registers and
--- blocks, and the phis that its blocks begin with
+-- the names of a function's registers and blocks, and the phis that its blocks begin with
 pub record Scope : Type 0 where
-  pub items : Items
-  pub tables : Tables
   pub registers : List (Option ℕ)
   pub labels : List (Option ℕ)
   pub joins : List (List Join)
@@ -123,19 +121,20 @@ pub record Scope : Type 0 where
 abbrev pub targets_of : List Edge → List (Option ℕ)
 targets_of edges = map (λ e. Some e.to) edges
 
-module _ (s : Scope) where
-  -- what a phi's register takes on an edge from the block of this label
-  abbrev pub move_of : ℕ → Join → Option Move
-  move_of label j = do
-    r ← place_of s.registers j.to
-    of ← scalar_at s.tables j.of
-    arm ← arm_from label j.arms
-    value ← operand_at s.tables s.registers of arm
-    Some (record { register = r; value = value })
+-- what a phi's register takes on an edge from the block of a label, from the names of the registers
+abbrev pub move_of : Tables → List (Option ℕ) → ℕ → Join → Option Move
+move_of t registers label j = do
+  r ← place_of registers j.to
+  of ← scalar_at t j.of
+  arm ← arm_from label j.arms
+  value ← operand_at t registers of arm
+  Some (record { register = r; value = value })
 
+-- over what was found of the module, and the names of a function
+module _ (t : Tables) (s : Scope) where
   -- the edge from the block of this label to the block of a number
   abbrev pub edge_to : ℕ → ℕ → Option Edge
-  edge_to label to = option_map (λ moves. record { to = to; moves = moves }) (every (move_of label) (slice_index_or s.joins to []))
+  edge_to label to = option_map (λ moves. record { to = to; moves = moves }) (every (move_of t s.registers label) (slice_index_or s.joins to []))
 
   -- the edges of a block with that to one more block, which stands last where none leads there yet; none where it breaks a rule
   abbrev pub with_target : ℕ → List Edge → ℕ → List Edge
@@ -149,39 +148,44 @@ module _ (s : Scope) where
   abbrev pub edges_of : Block ℕ ℕ ℕ → List Edge
   edges_of b = fold (with_exit b.label) [] (flat_map exits_of b.instructions)
 
+-- over the module too
+module _ (m : Items) (t : Tables) (s : Scope) where
   -- an instruction that is no phi of those that its block begins with
   unfoldable pub resolved : (ℕ → Option ℕ) → Instruction ℕ ℕ ℕ → Option Op
-  resolved exit (tree.Binary to what flags of left right) = binary s.tables s.registers to what flags of left right
-  resolved exit (tree.Cast to what flags of value target) = cast s.tables s.registers to what flags of value target
-  resolved exit (tree.Freeze to of value) = freeze s.tables s.registers to of value
-  resolved exit (tree.Compare to pred of left right) = compare s.tables s.registers to pred of left right
-  resolved exit (tree.Select to condition of on_true on_false) = select s.tables s.registers to condition of on_true on_false
+  resolved exit (tree.Binary to what flags of left right) = binary t s.registers to what flags of left right
+  resolved exit (tree.Cast to what flags of value target) = cast t s.registers to what flags of value target
+  resolved exit (tree.Freeze to of value) = freeze t s.registers to of value
+  resolved exit (tree.Compare to pred of left right) = compare t s.registers to pred of left right
+  resolved exit (tree.Select to condition of on_true on_false) = select t s.registers to condition of on_true on_false
   resolved exit (tree.Phi to of arms) = None
-  resolved exit (tree.Alloca to of count) = alloca s.tables s.registers to of count
-  resolved exit (tree.Load to of pointer) = load s.tables s.registers to of pointer
-  resolved exit (tree.Store of value pointer) = store s.tables s.registers of value pointer
-  resolved exit (tree.Address to inbounds of base indices) = address s.items s.tables s.registers to inbounds of base indices
-  resolved exit (tree.Call to of variadic what arguments) = call s.tables s.registers to of what arguments
-  resolved exit (tree.Return value) = return_of s.tables s.registers value
+  resolved exit (tree.Alloca to of count) = alloca t s.registers to of count
+  resolved exit (tree.Load to of pointer) = load t s.registers to of pointer
+  resolved exit (tree.Store of value pointer) = store t s.registers of value pointer
+  resolved exit (tree.Address to inbounds of base indices) = address m t s.registers to inbounds of base indices
+  resolved exit (tree.Call to of variadic what arguments) = call t s.registers to of what arguments
+  resolved exit (tree.Return value) = return_of t s.registers value
   resolved exit (tree.Jump target) = jump exit target
-  resolved exit (tree.Branch condition on_true on_false) = branch s.tables s.registers exit condition on_true on_false
-  resolved exit (tree.Switch of value default cases) = switch s.tables s.registers exit of value default cases
+  resolved exit (tree.Branch condition on_true on_false) = branch t s.registers exit condition on_true on_false
+  resolved exit (tree.Switch of value default cases) = switch t s.registers exit of value default cases
   resolved exit tree.Unreachable = Some op.Unreachable
 
   abbrev pub op_of : (ℕ → Option ℕ) → Instruction ℕ ℕ ℕ → Op
   op_of exit i = unwrap_or (resolved exit i) op.Stuck
 
+  -- the instructions of a block, whose edges lead so and are numbered from a first one on
+  abbrev pub ops_of : Leading → List (Instruction ℕ ℕ ℕ) → List Op
+  ops_of exits instructions =
+      let joins = joins_of instructions in
+      map (λ j. op.Phi) joins ++ map (op_of (exit_at s.labels exits.targets exits.first)) (drop (length joins) instructions)
+
   -- a block whose first instruction and first edge have these numbers
   abbrev pub block_of : ℕ → ℕ → Block ℕ ℕ ℕ → BlockCode
-  block_of first first_edge b =
-      let joins = joins_of b.instructions in
-      let exit = exit_at s.labels (targets_of (edges_of b)) first_edge in
-      record {
-        first = first;
-        phis = length joins;
-        ops = map (λ j. op.Phi) joins ++ map (op_of exit) (drop (length joins) b.instructions);
-      }
+  block_of first first_edge b = record {
+    first = first;
+    phis = length (joins_of b.instructions);
+    ops = ops_of (record { first = first_edge; targets = targets_of (edges_of t s b) }) b.instructions;
+  }
 
   abbrev pub blocks_from : ℕ → ℕ → List (Block ℕ ℕ ℕ) → List BlockCode
   blocks_from first first_edge [] = []
-  blocks_from first first_edge (b ∷ blocks) = block_of first first_edge b ∷ blocks_from (first + length b.instructions) (first_edge + length (edges_of b)) blocks
+  blocks_from first first_edge (b ∷ blocks) = block_of first first_edge b ∷ blocks_from (first + length b.instructions) (first_edge + length (edges_of t s b)) blocks

@@ -27,10 +27,8 @@ tables_of constants m = record {
 }
 
 -- what the blocks of a function are resolved in
-abbrev pub scope_of : Items → Tables → Function ℕ ℕ ℕ → Scope
-scope_of m t f = record {
-  items = m;
-  tables = t;
+abbrev pub scope_of : Tables → Function ℕ ℕ ℕ → Scope
+scope_of t f = record {
   registers = map (λ r. r.name) (registers_of t f);
   labels = map (λ b. Some b.label) f.blocks;
   joins = map (λ b. joins_of b.instructions) f.blocks;
@@ -39,13 +37,13 @@ scope_of m t f = record {
 -- a function
 unfoldable pub function_of : Items → Tables → Function ℕ ℕ ℕ → FunctionCode
 function_of m t f =
-    let s = scope_of m t f in
+    let s = scope_of t f in
     record {
       parameters = map (λ p. scalar_or_pointer t p.of) f.params;
       result = scalar_at t f.result;
       registers = map (λ r. r.of) (registers_of t f);
-      blocks = blocks_from s 0 0 f.blocks;
-      edges = flat_map (edges_of s) f.blocks;
+      blocks = blocks_from m t s 0 0 f.blocks;
+      edges = flat_map (edges_of t s) f.blocks;
       external = external_of (linkage_of m.names f);
       declared = f.declared;
     }

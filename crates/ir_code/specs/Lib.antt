@@ -7,6 +7,7 @@ pub mod Exits
 pub mod Families
 pub mod Addresses
 pub mod Blocks
+pub mod Adding
 pub mod Coding
 pub mod Strides
 pub mod Fixed

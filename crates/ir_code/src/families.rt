@@ -57,11 +57,7 @@ pub(crate) fn operand(
 }
 
 /// An operand that is written with its type.
-pub(crate) fn argument(
-    lookups: &Lookups,
-    registers: &Places,
-    argument: Argument,
-) -> Option<Operand>
+pub(crate) fn argument(lookups: &Lookups, registers: &Places, argument: Argument) -> Option<Operand>
     ensures { result ≡ argument_at lookups.now registers.now argument }
 {
     let of = lookups.scalar(argument.of)?;
