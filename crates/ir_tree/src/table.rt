@@ -89,6 +89,13 @@ impl Names {
         self.types.len()
     }
 
+    /// How many constants there are.
+    pub fn constant_count(&self) -> usize
+        ensures { result ≡ length self.now.constants }
+    {
+        self.constants.len()
+    }
+
     pub fn name(&self, number: NameId) -> Option<&Name>
         ensures { option_copied result ≡ slice_get self.now.names number }
     {
