@@ -42,14 +42,18 @@ unfoldable pub written_types : ElementsV → TypesV
 written_types NoneC = NoneV
 written_types (MoreC type c rest) = MoreV type (written_types rest)
 
--- so many types, each this one
-unfoldable pub are_each : ℕ → TypeV → TypesV → Bool
-are_each zero type NoneV = true
-are_each (suc n) type (MoreV t rest) = same_type type t && are_each n type rest
-are_each n type types = false
+-- how many types
+unfoldable pub type_count : TypesV → ℕ
+type_count NoneV = 0
+type_count (MoreV type rest) = suc (type_count rest)
+
+-- each is this type
+unfoldable pub are_all : TypeV → TypesV → Bool
+are_all type NoneV = true
+are_all type (MoreV t rest) = same_type type t && are_all type rest
 
 abbrev pub elements_fit : TypeV → TypesV → Bool
-elements_fit (ArrayV n type) written = are_each n type written
+elements_fit (ArrayV n type) written = nat_eq n (type_count written) && are_all type written
 elements_fit type written = false
 
 abbrev pub text_fits : ℕ → TypeV → Bool
@@ -77,11 +81,11 @@ constant_index (IntegerC n) = Some n.bits
 constant_index ZeroC = Some 0
 constant_index c = None
 
-abbrev pub indices_of : ElementsV → List (Option ℕ)
+unfoldable pub indices_of : ElementsV → List (Option ℕ)
 indices_of NoneC = []
 indices_of (MoreC type c rest) = constant_index c ∷ indices_of rest
 
-abbrev pub all_integers : TypesV → Bool
+unfoldable pub all_integers : TypesV → Bool
 all_integers NoneV = true
 all_integers (MoreV type rest) = is_integer type && all_integers rest
 

@@ -11,3 +11,5 @@ pub mod Faults
 pub mod Numbering
 pub mod Reading
 pub mod Checked
+pub mod Heads
+pub mod Classes

@@ -2,5 +2,11 @@
 #![tactic(auto)]
 
 pub mod checked;
+mod classes;
+mod constants;
 pub mod fault;
+mod flags;
 pub mod given;
+mod paths;
+mod together;
+mod types;
