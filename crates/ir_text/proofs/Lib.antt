@@ -11,3 +11,4 @@ pub mod TailLaws
 pub mod ListLaws
 pub mod Among
 pub mod Eaten
+pub mod TrailingLaws
