@@ -12,3 +12,4 @@ pub mod ListLaws
 pub mod Among
 pub mod Eaten
 pub mod TrailingLaws
+pub mod TailTurns

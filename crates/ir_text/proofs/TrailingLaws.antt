@@ -157,3 +157,80 @@ module _ {A : Type 0} (begins : TokenV → Bool) (item : Reader A) (s : Spelling
   nones : List (Unit {0}) → List (Option A)
   nones [] = []
   nones (u ∷ us) = None ∷ nones us
+
+  -- items, and then as many of what is passed over
+  both_of : List A → List (Unit {0}) → List (Option A)
+  unfolding nones
+  both_of [] us = nones us
+  both_of (a ∷ items) us = Some a ∷ both_of items us
+
+  nones_kept : (us : List (Unit {0})) → kept (nones us) ≡ []
+  unfolding nones
+  nones_kept [] = refl
+  nones_kept (u ∷ us) = nones_kept us
+
+  both_kept : (items : List A) (us : List (Unit {0})) → kept (both_of items us) ≡ items
+  unfolding both_of nones
+  both_kept [] us = nones_kept us
+  both_kept (a ∷ items) us = ap (λ (xs : List A). a ∷ xs) (both_kept items us)
+
+  passed_from : (more : Bool) (u : Unit {0}) (ws : List TokenV) → a_tail u ws → a_trailing_item more None ws
+  passed_from false u ws t = record { value = u; front = ws; rest = []; parts = sym (append-nil ws); first_spells = t; rest_spells = (refl, refl) }
+  passed_from true u ws t = inl (record { value = u; front = ws; rest = []; parts = sym (append-nil ws); first_spells = t; rest_spells = (refl, refl) })
+
+  tails_from : (more : Bool) (us : List (Unit {0})) (ws : List TokenV) → each (with_comma a_tail) us ws → each_under a_comma_item still more (nones us) ws
+  unfolding nones
+  tails_from more [] ws t = t
+  tails_from more (u ∷ us) ws t =
+      let c = t.first_spells in
+      record {
+        front = t.front;
+        rest = t.rest;
+        parts = t.parts;
+        first_spells = record { value = c.value; front = c.front; rest = c.rest; parts = c.parts; first_spells = c.first_spells; rest_spells = passed_from more u c.rest c.rest_spells };
+        rest_spells = tails_from false us t.rest t.rest_spells;
+      }
+
+  items_from : (items : List A) (us : List (Unit {0})) (ws rest : List TokenV) → each (with_comma s) items ws → each (with_comma a_tail) us rest → each_under a_comma_item still true (both_of items us) (ws ++ rest)
+  unfolding both_of
+  items_from [] us ws rest t tails = rw t (tails_from true us rest tails)
+  items_from (a ∷ items) us ws rest t tails =
+      let c = t.first_spells in
+      record {
+        front = t.front;
+        rest = t.rest ++ rest;
+        parts = ap (λ (u : List TokenV). u ++ rest) t.parts ∙ append_assoc t.front t.rest rest;
+        first_spells = record {
+          value = c.value;
+          front = c.front;
+          rest = c.rest;
+          parts = c.parts;
+          first_spells = c.first_spells;
+          rest_spells = inr (record { value = a; front = c.rest; rest = []; parts = sym (append-nil c.rest); first_spells = c.rest_spells; rest_spells = (refl, refl) });
+        };
+        rest_spells = items_from items us t.rest rest t.rest_spells tails;
+      }
+
+  to_listed : (items : List A) (ws : List TokenV) → listed items ws → a_trailing s items ws
+  to_listed items ws t =
+      let whole : ws ≡ t.front = t.parts ∙ ap (λ (u : List TokenV). t.front ++ u) t.rest_spells.1 ∙ append-nil t.front in
+      subst (λ (u : List TokenV). a_trailing s items u) (sym whole) (subst (λ (xs : List A). a_trailing s xs t.front) t.rest_spells.0 (to_trailing t.value t.front t.first_spells))
+
+  from_listed : (items : List A) (ws : List TokenV) → a_trailing s items ws → listed items ws
+  from_listed items ws t =
+      let tails = t.rest_spells in
+      let last = tails.first_spells in
+      let items_are : t.value ≡ items = tails.rest_spells.0 in
+      let none : t.rest ≡ last.front = tails.parts ∙ ap (λ (u : List TokenV). tails.front ++ u) tails.rest_spells.1 ∙ append-nil tails.front ∙ last.parts ∙ ap (λ (u : List TokenV). last.front ++ u) last.rest_spells.1 ∙ append-nil last.front in
+      let whole : ws ≡ t.front ++ last.front = t.parts ∙ ap (λ (u : List TokenV). t.front ++ u) none in
+      record {
+        value = both_of t.value last.value;
+        front = t.front ++ last.front;
+        rest = [];
+        parts = whole ∙ sym (append-nil (t.front ++ last.front));
+        first_spells = items_from t.value last.value t.front last.front t.first_spells last.first_spells;
+        rest_spells = (both_kept t.value last.value ∙ items_are, refl);
+      }
+
+  pub trailing_laws : (n : ℕ) → Lawful n (Behind (is_mark 44) between) (trailing_at begins item) (a_trailing s)
+  trailing_laws n = respell n (Behind (is_mark 44) between) (trailing_at begins item) listed (a_trailing s) to_listed from_listed (all_laws n)
