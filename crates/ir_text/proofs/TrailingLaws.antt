@@ -18,7 +18,7 @@ use Rattle.ir_text.proofs.ChoiceLaws.{choice, token_opens, opens_more}
 use Rattle.ir_text.proofs.RepeatedLaws.{repeated_laws}
 use Rattle.ir_text.proofs.TailLaws.{tail_laws, comma_opens}
 
-module _ {A : Type 0} (begins : TokenV → Bool) (item : Reader A) (s : Spelling A) (between : Follow) (laws : (n : ℕ) → Lawful n between item s) (opens : (a : A) (ws : List TokenV) → s a ws → Opens begins ws)
+module _ {A : Type 0} (n : ℕ) (begins : TokenV → Bool) (item : Reader A) (s : Spelling A) (between : Follow) (laws : Lawful n between item s) (opens : (a : A) (ws : List TokenV) → s a ws → Opens begins ws)
     (tail_apart : (a : Unit {0}) (ws rest : List TokenV) → a_tail a ws → next_is begins (ws ++ rest) ≡ false) (comma : (t : TokenV) (rest : List TokenV) → is_mark 44 t ≡ true → between (t ∷ rest)) where
   abbrev a_kept : Spelling (Option A)
   a_kept = InTurn s (λ a. nothing (Some a))
@@ -30,16 +30,16 @@ module _ {A : Type 0} (begins : TokenV → Bool) (item : Reader A) (s : Spelling
   a_trailing_item true o ws = a_passed o ws ⊎ a_kept o ws
   a_trailing_item false o ws = a_passed o ws
 
-  kept_laws : (n : ℕ) → Lawful n between (λ ts. item ts >>= λ x. Ok (Some x.0, x.1)) a_kept
-  kept_laws n = in_turn_before n between between item (λ a ts. Ok (Some a, ts)) s (λ a. nothing (Some a)) (laws n) (λ a. nothing_laws n between (Some a)) (λ a o ws rest t b. rw t.1 b)
+  kept_laws : Lawful n between (λ ts. item ts >>= λ x. Ok (Some x.0, x.1)) a_kept
+  kept_laws = in_turn_before n between between item (λ a ts. Ok (Some a, ts)) s (λ a. nothing (Some a)) laws (λ a. nothing_laws n between (Some a)) (λ a o ws rest t b. rw t.1 b)
 
-  passed_laws : (n : ℕ) → Lawful n between passed_tail a_passed
-  passed_laws n = in_turn n between tail_at (λ _ ts. Ok (None, ts)) a_tail (λ _. nothing None) (tail_laws n) (λ _. nothing_laws n between None)
+  passed_laws : Lawful n between passed_tail a_passed
+  passed_laws = in_turn n between tail_at (λ _ ts. Ok (None, ts)) a_tail (λ _. nothing None) (tail_laws n) (λ _. nothing_laws n between None)
 
-  item_laws : (n : ℕ) (more : Bool) → Lawful n between (trailing_item begins item more) (a_trailing_item more)
-  item_laws n false = passed_laws n
-  item_laws n true =
-      choice n begins between between between (λ us. item us >>= λ x. Ok (Some x.0, x.1)) passed_tail a_kept a_passed (kept_laws n) (passed_laws n)
+  item_laws : (more : Bool) → Lawful n between (trailing_item begins item more) (a_trailing_item more)
+  item_laws false = passed_laws
+  item_laws true =
+      choice n begins between between between (λ us. item us >>= λ x. Ok (Some x.0, x.1)) passed_tail a_kept a_passed kept_laws passed_laws
       (opens_more begins s (λ a. nothing (Some a)) opens) passed_apart (λ rest b. b) (λ rest b. b)
     where
       passed_apart : (o : Option A) (ws rest : List TokenV) → a_passed o ws → between rest → next_is begins (ws ++ rest) ≡ false
@@ -50,8 +50,8 @@ module _ {A : Type 0} (begins : TokenV → Bool) (item : Reader A) (s : Spelling
   abbrev a_comma_item : Bool → Spelling (Option A)
   a_comma_item more = with_comma (a_trailing_item more)
 
-  comma_laws : (n : ℕ) (more : Bool) → Lawful n between (comma_item begins item more) (a_comma_item more)
-  comma_laws n more = in_turn n between (mark_at 44) (λ _. trailing_item begins item more) (one_token (mark 44)) (λ _. a_trailing_item more) (token_laws n (mark 44)) (λ _. item_laws n more)
+  comma_laws : (more : Bool) → Lawful n between (comma_item begins item more) (a_comma_item more)
+  comma_laws more = in_turn n between (mark_at 44) (λ _. trailing_item begins item more) (one_token (mark 44)) (λ _. a_trailing_item more) (token_laws n (mark 44)) (λ _. item_laws more)
 
   comma_first : (more : Bool) (o : Option A) (ws rest : List TokenV) → a_comma_item more o ws → between (ws ++ rest)
   comma_first more o ws rest t =
@@ -64,10 +64,10 @@ module _ {A : Type 0} (begins : TokenV → Bool) (item : Reader A) (s : Spelling
   abbrev listed : Spelling (List A)
   listed = InTurn (each_under a_comma_item still true) (λ all. nothing (kept all))
 
-  all_laws : (n : ℕ) → Lawful n Last (trailing_at begins item) listed
-  all_laws n =
+  all_laws : Lawful n Last (trailing_at begins item) listed
+  all_laws =
       in_turn_before n Last Last (repeated_under (is_mark 44) (comma_item begins item) still true) (λ all ts. Ok (kept all, ts)) (each_under a_comma_item still true) (λ all. nothing (kept all))
-      (repeated_laws (is_mark 44) (comma_item begins item) still a_comma_item between comma_laws (λ more o ws t. comma_opens (a_trailing_item more) o ws t) comma_first n true)
+      (repeated_laws n (is_mark 44) (comma_item begins item) still a_comma_item between comma_laws (λ more o ws t. comma_opens (a_trailing_item more) o ws t) comma_first true)
       (λ all. nothing_laws n Last (kept all)) (λ all items ws rest t b. rw t.1 b)
 
   -- ---- items first, and then what is passed over
@@ -232,5 +232,5 @@ module _ {A : Type 0} (begins : TokenV → Bool) (item : Reader A) (s : Spelling
         rest_spells = (both_kept t.value last.value ∙ items_are, refl);
       }
 
-  pub trailing_laws : (n : ℕ) → Lawful n (Behind (is_mark 44) between) (trailing_at begins item) (a_trailing s)
-  trailing_laws n = respell n (Behind (is_mark 44) between) (trailing_at begins item) listed (a_trailing s) to_listed from_listed (all_laws n)
+  pub trailing_laws : Lawful n (Behind (is_mark 44) between) (trailing_at begins item) (a_trailing s)
+  trailing_laws = respell n (Behind (is_mark 44) between) (trailing_at begins item) listed (a_trailing s) to_listed from_listed all_laws
