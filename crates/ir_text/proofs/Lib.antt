@@ -11,3 +11,5 @@ pub mod TailLaws
 pub mod ListLaws
 pub mod Among
 pub mod Eaten
+pub mod TrailingLaws
+pub mod TailTurns

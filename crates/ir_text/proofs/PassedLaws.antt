@@ -27,11 +27,11 @@ pub refusing_here : {A : Type 0} (t : TokenV) → Refuses {A = A} (λ rest. wron
 refusing_here t = record { cause = blamed t causes.Operand; refused = λ rest. refl; unspelled = λ x ws s. s }
 
 -- items of which nothing is kept
-pub skipped_laws : {A : Type 0} (n : ℕ) (test : TokenV → Bool) (item : Reader A) (s : Spelling A) (between : Follow) → ((m : ℕ) → Lawful m between item s) → ((a : A) (ws : List TokenV) → s a ws → Opens test ws)
+pub skipped_laws : {A : Type 0} (n : ℕ) (test : TokenV → Bool) (item : Reader A) (s : Spelling A) (between : Follow) → Lawful n between item s → ((a : A) (ws : List TokenV) → s a ws → Opens test ws)
     → ((a : A) (ws rest : List TokenV) → s a ws → between (ws ++ rest)) → Lawful n (Behind test between) (skipped test item) (skips s)
 skipped_laws n test item s between laws opens followed =
     in_turn_before n (Behind test between) (Behind test between) (repeated test item) (λ all ts. Ok (tt, ts)) (each s) (λ all. nothing tt)
-    (repeated_laws test (λ _. item) stays (λ _. s) between (λ m _. laws m) (λ _ a ws t. opens a ws t) (λ _ a ws rest t. followed a ws rest t) n tt)
+    (repeated_laws n test (λ _. item) stays (λ _. s) between (λ _. laws) (λ _ a ws t. opens a ws t) (λ _ a ws rest t. followed a ws rest t) tt)
     (λ all. nothing_laws n (Behind test between) tt) (λ all u ws rest t b. rw t.1 b)
 
 pub after_word_laws : (n : ℕ) → Lawful n AfterWord after_word with_word
@@ -142,7 +142,7 @@ module _ (stop : TokenV → Bool) where
       subst AfterPassed (sym is) (record { none = other_mark 61 o.token refl o.is; fits = record { none = other_mark 40 o.token refl o.is; fits = record { none = other_integer o.token o.is; fits = tt } } })
 
   pub words_laws : (n : ℕ) → Lawful n (Behind (may_pass stop) AfterPassed) (words_at stop) (some_words stop)
-  words_laws n = skipped_laws n (may_pass stop) (passed_at stop) (passed_unless stop) AfterPassed (λ m. passed_laws m stop) passed_opens passed_followed
+  words_laws n = skipped_laws n (may_pass stop) (passed_at stop) (passed_unless stop) AfterPassed (passed_laws n stop) passed_opens passed_followed
 
 -- ---- a loop's turns
 

@@ -15,7 +15,7 @@ persists n follow r s laws ts more line cause short e =
     let is : ts ++ more ≡ w.front ++ w.token ∷ (w.rest ++ more) = ap (λ (u : List TokenV). u ++ more) w.parts ∙ append_assoc w.front (w.token ∷ w.rest) more in
     ap r is ∙ w.stays (w.rest ++ more)
 
-module _ {A : Type 0} (follow : Follow) (f : ℕ → Reader A) (s : Spelling A) (same : (k m : ℕ) (ts : List TokenV) → length ts ≤ k → length ts ≤ m → f k ts ≡ f m ts) (laws : (n k : ℕ) → n ≤ k → Lawful n follow (f k) s) where
+module _ {A : Type 0} (n : ℕ) (follow : Follow) (f : ℕ → Reader A) (s : Spelling A) (same : (k m : ℕ) (ts : List TokenV) → length ts ≤ k → length ts ≤ m → f k ts ≡ f m ts) (laws : (k : ℕ) → n ≤ k → Lawful n follow (f k) s) where
   abbrev read : Reader A
   read ts = f (length ts) ts
 
@@ -24,32 +24,32 @@ module _ {A : Type 0} (follow : Follow) (f : ℕ → Reader A) (s : Spelling A) 
 
   all_sound : (ts : List TokenV) (x : A × List TokenV) → read ts ≡ Ok x → Takes read s ts x.0 x.1
   all_sound ts x e =
-      let one = (laws 0 (length ts) (omega arith)).sound ts x e in
+      let one = (laws (n + length ts) (omega arith)).sound ts x (sym (at_most (n + length ts) ts (omega arith)) ∙ e) in
       record {
         front = one.front;
         parts = one.parts;
         spelled = one.spelled;
         again = λ others next.
-            let k : ℕ = length ts + length (one.front ++ others) in
-            let two = (laws 0 k (omega arith)).sound ts x (sym (at_most k ts (omega arith)) ∙ e) in
+            let k : ℕ = n + length ts + length (one.front ++ others) in
+            let two = (laws k (omega arith)).sound ts x (sym (at_most k ts (omega arith)) ∙ e) in
             let front : two.front ≡ one.front = append_cancel_right two.front one.front x.1 (sym two.parts ∙ one.parts) in
             at_most k (one.front ++ others) (omega arith) ∙ ap (λ (u : List TokenV). f k (u ++ others)) (sym front) ∙ two.again others next;
         alone =
             let le : length one.front ≤ length ts = omega (arith, ap length one.parts ∙ length-append one.front x.1) in
             elim one.alone [
-              | inl all ↦ inl (at_most (length ts) one.front le ∙ all)
-              | inr more ↦ inr (at_most (length ts) one.front le ∙ more)
+              | inl all ↦ inl (at_most (n + length ts) one.front (omega arith) ∙ all)
+              | inr more ↦ inr (at_most (n + length ts) one.front (omega arith) ∙ more)
             ];
       }
 
-  all_complete : (n : ℕ) (a : A) (ws rest : List TokenV) → length ws ≤ n → s a ws → follow rest → read (ws ++ rest) ≡ Ok (a, rest)
-  all_complete n a ws rest short spelled follows =
+  all_complete : (a : A) (ws rest : List TokenV) → length ws ≤ n → s a ws → follow rest → read (ws ++ rest) ≡ Ok (a, rest)
+  all_complete a ws rest short spelled follows =
       let k : ℕ = n + length (ws ++ rest) in
-      at_most k (ws ++ rest) (omega arith) ∙ (laws n k (omega arith)).complete a ws rest short spelled follows
+      at_most k (ws ++ rest) (omega arith) ∙ (laws k (omega arith)).complete a ws rest short spelled follows
 
-  all_faults : (n : ℕ) (ts : List TokenV) (line : ℕ) (cause : Cause) → length ts ≤ n → read ts ≡ Err (At line cause) → WrongAt read ts line cause
-  all_faults n ts line cause short e =
-      let w = (laws (length ts) (length ts) (omega arith)).faults ts line cause (omega arith) e in
+  all_faults : (ts : List TokenV) (line : ℕ) (cause : Cause) → length ts ≤ n → read ts ≡ Err (At line cause) → WrongAt read ts line cause
+  all_faults ts line cause short e =
+      let w = (laws n (omega arith)).faults ts line cause short (sym (at_most n ts short) ∙ e) in
       let size : length ts ≡ length w.front + length (w.token ∷ w.rest) = ap length w.parts ∙ length-append w.front (w.token ∷ w.rest) in
       let cut : length (w.front ++ w.token ∷ []) ≡ length w.front + 1 = length-append w.front (w.token ∷ []) in
       record {
@@ -59,22 +59,25 @@ module _ {A : Type 0} (follow : Follow) (f : ℕ → Reader A) (s : Spelling A) 
         parts = w.parts;
         on_line = w.on_line;
         still_open = elim w.still_open [
-          | inl all ↦ inl (all.0, at_most (length ts) w.front (omega arith) ∙ all.1)
-          | inr more ↦ inr (at_most (length ts) w.front (omega arith) ∙ more)
+          | inl all ↦ inl (all.0, at_most n w.front (omega arith) ∙ all.1)
+          | inr more ↦ inr (at_most n w.front (omega arith) ∙ more)
         ];
         stays = λ more.
-            let k : ℕ = length ts + length (w.front ++ w.token ∷ more) in
-            let here : f k (w.front ++ w.token ∷ []) ≡ Err (At line cause) = same k (length ts) (w.front ++ w.token ∷ []) (omega arith) (omega arith) ∙ w.stays [] in
+            let k : ℕ = n + length (w.front ++ w.token ∷ more) in
+            let here : f k (w.front ++ w.token ∷ []) ≡ Err (At line cause) = same k n (w.front ++ w.token ∷ []) (omega arith) (omega arith) ∙ w.stays [] in
             at_most k (w.front ++ w.token ∷ more) (omega arith) ∙ ap (f k) (sym (append_assoc w.front (w.token ∷ []) more))
-            ∙ persists k follow (f k) s (laws k k (omega arith)) (w.front ++ w.token ∷ []) more line cause (omega arith) here;
+            ∙ persists n follow (f k) s (laws k (omega arith)) (w.front ++ w.token ∷ []) more line cause (omega arith) here;
       }
 
   all_begins : Unfaulted (read [])
-  all_begins = (laws 0 0 (omega arith)).begins
+  all_begins = elim (laws n (omega arith)).begins [
+    | inl all ↦ inl (all.0, at_most n [] (omega arith) ∙ all.1)
+    | inr more ↦ inr (at_most n [] (omega arith) ∙ more)
+  ]
 
   -- with as many steps as there are tokens
-  pub counted : (n : ℕ) → Lawful n follow read s
-  counted n = record { sound = all_sound; complete = all_complete n; faults = all_faults n; begins = all_begins }
+  pub counted : Lawful n follow read s
+  counted = record { sound = all_sound; complete = all_complete; faults = all_faults; begins = all_begins }
 
 -- ---- what is read is taken
 

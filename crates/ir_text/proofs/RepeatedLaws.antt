@@ -94,26 +94,26 @@ module _ {S A : Type 0} (test : TokenV → Bool) (item : S → Reader A) (next :
 
 -- ---- the laws
 
-module _ {S A : Type 0} (test : TokenV → Bool) (item : S → Reader A) (next : S → A → S) (spells : S → Spelling A) (between : Follow)
-    (laws : (n : ℕ) (state : S) → Lawful n between (item state) (spells state))
+module _ {S A : Type 0} (n : ℕ) (test : TokenV → Bool) (item : S → Reader A) (next : S → A → S) (spells : S → Spelling A) (between : Follow)
+    (laws : (state : S) → Lawful n between (item state) (spells state))
     (opens : (state : S) (a : A) (ws : List TokenV) → spells state a ws → Opens test ws)
     (followed : (state : S) (a : A) (ws rest : List TokenV) → spells state a ws → between (ws ++ rest)) where
   few : (state : S) (all : List A) (ws : List TokenV) → each_under spells next state all ws → length all ≤ length ws
   few state [] ws s = omega arith
   few state (a ∷ all) ws s =
-      let one = takes test item next spells between laws opens followed state a s.front s.first_spells in
+      let one = takes n test item next spells between laws opens followed state a s.front s.first_spells in
       let others = few (next state a) all s.rest s.rest_spells in
       let size : length ws ≡ length s.front + length s.rest = ap length s.parts ∙ length-append s.front s.rest in
       omega arith
 
-  pub repeated_laws : (n : ℕ) (state : S) → Lawful n (Behind test between) (repeated_under test item next state) (each_under spells next state)
+  pub repeated_laws : (state : S) → Lawful n (Behind test between) (repeated_under test item next state) (each_under spells next state)
   unfolding repeated_under
-  repeated_laws n state = counted (Behind test between) (λ k. repeated_to test item next k state) (each_under spells next state)
-      (λ k m ts le lt. enough test item next (λ s ts x e. shortens 0 between (item s) (spells s) (laws 0 s) (takes test item next spells between laws opens followed s) ts x e) k m state ts le lt)
-      (λ n k le. bounded n k le (many_laws test item next spells between laws opens followed k n state)) n
+  repeated_laws state = counted n (Behind test between) (λ k. repeated_to test item next k state) (each_under spells next state)
+      (λ k m ts le lt. enough test item next (λ s ts x e. shortens n between (item s) (spells s) (laws s) (takes n test item next spells between laws opens followed s) ts x e) k m state ts le lt)
+      (λ k le. bounded k le (many_laws n test item next spells between laws opens followed k state))
     where
-      bounded : (n k : ℕ) → n ≤ k → Lawful n (Behind test between) (repeated_to test item next k state) (λ all ws. each_under spells next state all ws × (length all ≤ k)) → Lawful n (Behind test between) (repeated_to test item next k state) (each_under spells next state)
-      bounded n k le one = record {
+      bounded : (k : ℕ) → n ≤ k → Lawful n (Behind test between) (repeated_to test item next k state) (λ all ws. each_under spells next state all ws × (length all ≤ k)) → Lawful n (Behind test between) (repeated_to test item next k state) (each_under spells next state)
+      bounded k le one = record {
         sound = λ ts x e. let t = one.sound ts x e in record { front = t.front; parts = t.parts; spelled = t.spelled.0; again = t.again; alone = t.alone };
         complete = λ a ws rest short s f. one.complete a ws rest short (s, (let less = few state a ws s in omega arith)) f;
         faults = one.faults;

@@ -14,8 +14,8 @@ use Rattle.ir_text.proofs.Choices.{weaken, respell}
 use Rattle.ir_text.proofs.ChoiceLaws.{choice}
 use Rattle.ir_text.proofs.Persisting.{counted, shortens, Takers}
 
-module _ {S A : Type 0} (test : TokenV → Bool) (item : S → Reader A) (next : S → A → S) (spells : S → Spelling A) (between : Follow)
-    (laws : (n : ℕ) (state : S) → Lawful n between (item state) (spells state))
+module _ {S A : Type 0} (n : ℕ) (test : TokenV → Bool) (item : S → Reader A) (next : S → A → S) (spells : S → Spelling A) (between : Follow)
+    (laws : (state : S) → Lawful n between (item state) (spells state))
     (opens : (state : S) (a : A) (ws : List TokenV) → spells state a ws → Opens test ws)
     (followed : (state : S) (a : A) (ws rest : List TokenV) → spells state a ws → between (ws ++ rest)) where
   abbrev up_to : ℕ → S → Spelling (List A)
@@ -90,9 +90,9 @@ module _ {S A : Type 0} (test : TokenV → Bool) (item : S → Reader A) (next :
   none_spelled : (all : List A) (ws rest : List TokenV) → nothing [] all ws → (Behind test between) rest → next_is test (ws ++ rest) ≡ false
   none_spelled all ws rest s b = rw s.1 b.none
 
-  zero_laws : (n : ℕ) (state : S) → Lawful n (Behind test between) (repeated_to test item next 0 state) (up_to 0 state)
+  zero_laws : (state : S) → Lawful n (Behind test between) (repeated_to test item next 0 state) (up_to 0 state)
   unfolding repeated_to
-  zero_laws n state = respell n (Behind test between) (λ ts. Ok ([], ts)) (nothing []) (up_to 0 state) to from (nothing_laws n (Behind test between) [])
+  zero_laws state = respell n (Behind test between) (λ ts. Ok ([], ts)) (nothing []) (up_to 0 state) to from (nothing_laws n (Behind test between) [])
     where
       to : (all : List A) (ws : List TokenV) → nothing [] all ws → up_to 0 state all ws
       to [] ws s = (s.1, omega arith)
@@ -102,14 +102,14 @@ module _ {S A : Type 0} (test : TokenV → Bool) (item : S → Reader A) (next :
       from [] ws s = (refl, s.0)
       from (a ∷ all) ws s = let short = s.1 in absurd (omega arith)
 
-  pub many_laws : (k n : ℕ) (state : S) → Lawful n (Behind test between) (repeated_to test item next k state) (up_to k state)
+  pub many_laws : (k : ℕ) (state : S) → Lawful n (Behind test between) (repeated_to test item next k state) (up_to k state)
   unfolding repeated_to step
-  many_laws zero n state = zero_laws n state
-  many_laws (suc k) n state =
+  many_laws zero state = zero_laws state
+  many_laws (suc k) state =
       respell n (Behind test between) (repeated_to test item next (suc k) state) (λ all ws. nothing [] all ws ⊎ step_spells k state all ws) (up_to (suc k) state) (to_each k state) (from_each k state)
       (choice n test (Behind test between) (Behind test between) (Behind test between) (step k state) (gives []) (step_spells k state) (nothing [])
-      (in_turn_before n between (Behind test between) (item state) (λ a us. repeated_to test item next k (next state a) us >>= λ others. Ok (a ∷ others.0, others.1)) (spells state) _ (laws n state)
-      (λ a. in_turn_before n (Behind test between) (Behind test between) (repeated_to test item next k (next state a)) (λ all us. Ok (a ∷ all, us)) (up_to k (next state a)) _ (many_laws k n (next state a)) (λ all. nothing_laws n (Behind test between) (a ∷ all)) (λ all bs ws rest s b. rw s.1 b))
+      (in_turn_before n between (Behind test between) (item state) (λ a us. repeated_to test item next k (next state a) us >>= λ others. Ok (a ∷ others.0, others.1)) (spells state) _ (laws state)
+      (λ a. in_turn_before n (Behind test between) (Behind test between) (repeated_to test item next k (next state a)) (λ all us. Ok (a ∷ all, us)) (up_to k (next state a)) _ (many_laws k (next state a)) (λ all. nothing_laws n (Behind test between) (a ∷ all)) (λ all bs ws rest s b. rw s.1 b))
       (λ a all ws rest s b. subst between (sym (ap (λ (u : List TokenV). u ++ rest) (flat s))) (comes (next state a) s.value s.front rest s.first_spells.0 b)))
       (nothing_laws n (Behind test between) []) (step_opens k state) none_spelled (λ rest b. b) (λ rest b. b))
     where

@@ -23,7 +23,7 @@ pub note_laws : (n : ℕ) → Lawful n anything note_at a_note
 note_laws n = in_turn n anything _ _ _ _ (token_laws n (mark 33)) (λ _. behind_sign_laws n)
 
 pub notes_laws : (n : ℕ) → Lawful n (Behind (is_mark 33) anything) notes_at some_notes
-notes_laws n = skipped_laws n (is_mark 33) note_at a_note anything note_laws (opens_more (is_mark 33) (one_token (mark 33)) (λ _. behind_sign) (token_opens (is_mark 33) (λ _. causes.Operand))) (λ a ws rest s. tt)
+notes_laws n = skipped_laws n (is_mark 33) note_at a_note anything (note_laws n) (opens_more (is_mark 33) (one_token (mark 33)) (λ _. behind_sign) (token_opens (is_mark 33) (λ _. causes.Operand))) (λ a ws rest s. tt)
 
 tail_each : (n : ℕ) (a s c m : Bool) (t : TokenV)
     → Lawful n anything (λ rest. cond a (token_by some_integer rest) (cond s (token_by some_string rest) (cond c (Ok (tt, rest)) (cond m (note_behind rest) (wrong t causes.Operand)))))
@@ -44,4 +44,4 @@ pub comma_opens : {A : Type 0} (s : Spelling A) (a : A) (ws : List TokenV) → w
 comma_opens s = opens_more (is_mark 44) (one_token (mark 44)) (λ _. s) (token_opens (is_mark 44) (λ _. causes.Operand))
 
 pub tails_laws : (n : ℕ) → Lawful n (Behind (is_mark 44) anything) tails_at some_tails
-tails_laws n = skipped_laws n (is_mark 44) (after_comma tail_at) (with_comma a_tail) anything (λ m. in_turn m anything _ _ _ _ (token_laws m (mark 44)) (λ _. tail_laws m)) (comma_opens a_tail) (λ a ws rest s. tt)
+tails_laws n = skipped_laws n (is_mark 44) (after_comma tail_at) (with_comma a_tail) anything (in_turn n anything _ _ _ _ (token_laws n (mark 44)) (λ _. tail_laws n)) (comma_opens a_tail) (λ a ws rest s. tt)

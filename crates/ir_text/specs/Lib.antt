@@ -6,6 +6,7 @@ pub mod Lists
 pub mod Passed
 pub mod Stopping
 pub mod Tails
+pub mod Trailing
 pub mod Spelled
 pub mod Lawful
 pub mod Leaves

@@ -2,11 +2,12 @@
 
 ghost use Rattle.std.specs.Prelude.{◌≡◌, ◌<◌, ◌≤◌, [], ◌∷◌, length, drop, OnOk};
 ghost use Rattle.ir_text.specs.Reading.{Reads, next_is, sees};
+ghost use Rattle.ir_text.specs.Lists.{after_comma};
 ghost use Rattle.ir_text.specs.Tails as spec;
 
 use crate::cursor::Cursor;
 use crate::fault::{Fault, ReadEnd};
-use crate::leaves::{bad, eat, is_mark, is_word, mark};
+use crate::leaves::{bad, is_mark, is_word, mark, sees};
 use crate::passed::{some_integer, some_string, some_word};
 use ir_lex::token::Cause;
 
@@ -51,4 +52,33 @@ pub fn tail(cursor: &mut Cursor<'_>) -> Result<(), ReadEnd>
             }
         }
     }
+}
+
+/// Passes over any number of `!word !N`.
+pub fn notes(cursor: &mut Cursor<'_>) -> Result<(), ReadEnd>
+    ensures { Reads (λ x. x) cursor.new result (spec.notes_at cursor.old) }
+{
+    while sees(cursor, b'!') {
+        note(cursor)?;
+    }
+    Ok(())
+}
+
+/// Passes over one of what stands behind an instruction, behind its comma.
+fn comma_tail(cursor: &mut Cursor<'_>) -> Result<(), ReadEnd>
+    ensures reads { Reads (λ x. x) cursor.new result (after_comma spec.tail_at cursor.old) }
+    ensures shorter { OnOk result (length cursor.new < length cursor.old) }
+{
+    mark(cursor, b',')?;
+    tail(cursor)
+}
+
+/// Passes over any number of what stands behind an instruction, each behind a comma.
+pub fn tails(cursor: &mut Cursor<'_>) -> Result<(), ReadEnd>
+    ensures { Reads (λ x. x) cursor.new result (spec.tails_at cursor.old) }
+{
+    while sees(cursor, b',') {
+        comma_tail(cursor)?;
+    }
+    Ok(())
 }
