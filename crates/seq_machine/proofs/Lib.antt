@@ -1,3 +1,4 @@
 pub mod WordLoops
 pub mod Follow
 pub mod Operands
+pub mod FrameLists

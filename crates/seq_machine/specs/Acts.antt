@@ -20,7 +20,7 @@ use Rattle.seq_machine.specs.declared.state.Value.TheVariants.{Int, Pointer}
 use Rattle.seq_machine.specs.declared.state.Frame.{Frame}
 use Rattle.seq_machine.specs.declared.state.Effect.{Effect}
 use Rattle.seq_machine.specs.declared.state.Effect.TheVariants.{Next, Give, Keep, Edge, Enter, Back, Exit, Print, Take}
-use Rattle.seq_machine.specs.Values.{then_, where_, operand, may_hold}
+use Rattle.seq_machine.specs.Values.{then_, where_, operand, may_hold, Holds, AreOf}
 use Rattle.seq_machine.specs.Flow.{may_stand}
 
 -- ---- where a frame stands
@@ -86,6 +86,11 @@ set_moves [] vs registers = registers
 set_moves (m ∷ ms) [] registers = registers
 set_moves (m ∷ ms) (v ∷ vs) registers = set_moves ms vs (slice_set registers m.register (Some v))
 
+-- as many values as moves, each for its register
+pub record MovesHold (types : List Scalar) (moves : List Move) (values : List Value) : Type 0 where
+  pub count : length values ≡ length moves
+  pub each : (i : ℕ) (m : Move) (v : Value) → slice_get moves i ≡ Some m → slice_get values i ≡ Some v → Holds types m.register v
+
 -- at the first instruction of the block after its phis
 abbrev pub arrived : FunctionCode → Frame → EdgeCode → List Value → Frame
 arrived g f e vs = record f { block = e.to; place = phis_of (slice_get g.blocks e.to); registers = set_moves e.moves vs f.registers }
@@ -93,6 +98,15 @@ arrived g f e vs = record f { block = e.to; place = phis_of (slice_get g.blocks 
 abbrev pub taken : FunctionCode → Frame → Option EdgeCode → Result Frame Trap
 taken g f (Some e) = if may_stand (slice_get g.blocks e.to) then then_ (move_values g f e.moves) (λ vs. Ok (arrived g f e vs)) else Err Unreachable
 taken g f None = Err Unreachable
+
+-- the top frame stands at the start of a block of its function, with registers of their types
+pub record Stands (g : FunctionCode) (f : Frame) (frames : List Frame) (after : List Frame) : Type 0 where
+  pub frame : Frame
+  pub is_top : after ≡ with_top frames frame
+  pub function : frame.function ≡ f.function
+  pub stands : may_stand (slice_get g.blocks frame.block) ≡ true
+  pub place : frame.place ≡ phis_of (slice_get g.blocks frame.block)
+  pub registers : AreOf g.registers frame.registers
 
 -- ---- calls and returns
 

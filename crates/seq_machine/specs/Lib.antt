@@ -4,3 +4,5 @@ pub mod Numbers
 pub mod Words
 pub mod Accesses
 pub mod Flow
+pub mod Acts
+pub mod Frames

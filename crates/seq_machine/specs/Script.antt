@@ -69,3 +69,8 @@ Follows {M = M} image R (Asks call k) m answer n =
 abbrev pub sent : {A B : Type 0} → (A → B) → Result A Fault → Result B Fault
 sent g (Ok a) = Ok (g a)
 sent g (Err f) = Err f
+
+-- the value that the code leaves, or its fault
+abbrev pub ends : {A : Type 0} → A → Result (Unit {0}) Fault → Result A Fault
+ends a (Ok u) = Ok a
+ends a (Err f) = Err f

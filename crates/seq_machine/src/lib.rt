@@ -5,5 +5,6 @@ pub mod state;
 pub mod values;
 pub mod words;
 pub mod accesses;
+pub mod acts;
 pub mod flow;
 pub mod numbers;
