@@ -73,3 +73,15 @@ separated_first {X = X} f g (a ∷ rest) d r x y z some e ok =
     let all : take (length (a ∷ rest) - 1) rest ≡ rest = take_all (length (a ∷ rest) - 1) rest (omega arith) in
     let P : List X → Type 0 = λ ys. OnOk r (z ≡ y ++ bytes_of (led (map f (map g ys)))) in
     put_last r x y z (f (g a)) (led (map f (map g rest))) e (subst P all ok)
+
+-- the first item, the others, and then more of them
+pub separated_more : {X Y : Type 0} (f : Y → List Piece) (g : X → Y) (xs : List X) (d : X) (more : List (List Piece)) (r : Result (Unit {0}) Memory) (x y z w : List ℕ) → 1 ≤ length xs → y ≡ x ++ bytes_of (f (g (get_or xs 0 d)))
+    → z ≡ y ++ bytes_of (led (map f (map g (take (length xs - 1) (drop 1 xs))))) → OnOk r (w ≡ z ++ bytes_of (led more)) → OnOk r (w ≡ x ++ bytes_of (separated (map f (map g xs) ++ more)))
+separated_more f g [] d more r x y z w some e h ok = absurd (omega arith)
+separated_more {X = X} f g (a ∷ rest) d more r x y z w some e h ok =
+    let all : take (length (a ∷ rest) - 1) rest ≡ rest = take_all (length (a ∷ rest) - 1) rest (omega arith) in
+    let P : List X → Type 0 = λ ys. z ≡ y ++ bytes_of (led (map f (map g ys))) in
+    let others = led (map f (map g rest)) in
+    let so : OnOk r (w ≡ y ++ bytes_of (others ++ led more)) = put_last r y z w others (led more) (subst P all h) ok in
+    let Q : List Piece → Type 0 = λ ps. OnOk r (w ≡ y ++ bytes_of ps) in
+    put_last r x y w (f (g a)) (led (map f (map g rest) ++ more)) e (subst Q (sym (led_append (map f (map g rest)) more)) so)

@@ -1,5 +1,5 @@
 -- The items of a module as pieces, and its text, after the LLVM Language Reference, "High Level Structure".
-use Rattle.std.specs.Prelude.{ℕ, Bool, true, false, List, [], ◌∷◌, ◌++◌, codes, Option, Some, None, map, decimal, slice_get}
+use Rattle.std.specs.Prelude.{ℕ, Bool, true, false, List, [], ◌∷◌, ◌++◌, codes, Option, Some, None, map, decimal, slice_get, if◌then◌else◌}
 use Rattle.pv_base.specs.declared.name.Name.{Name}
 use Rattle.pv_base.specs.declared.place.Site.{Site}
 use Rattle.ir_tree.specs.declared.instruction.Instruction.{Instruction}
@@ -30,7 +30,7 @@ global_start name constant = Global name ∷ Blank ∷ Mark 61 ∷ Blank ∷ Wor
 
 -- `@name = global T INIT`
 abbrev pub global_pieces : GlobalItem Name TypeV ConstantV → List Piece
-global_pieces g = global_start g.name g.constant ++ typed g.of ++ (Blank ∷ constant_pieces g.init) ++ (LineEnd ∷ [])
+global_pieces g = global_start g.name g.constant ++ typed g.of ++ (Blank ∷ []) ++ constant_pieces g.init ++ (LineEnd ∷ [])
 
 -- the name of a parameter behind a blank, where it has one
 abbrev pub param_name : Option Name → List Piece
@@ -52,7 +52,7 @@ params_pieces params variadic = separated (map param_pieces params ++ variadic_p
 
 -- `T @name(PARAMS)`
 abbrev pub head_pieces : Function Name TypeV ConstantV → List Piece
-head_pieces f = type_pieces f.result ++ (Blank ∷ Global f.name ∷ Mark 40 ∷ []) ++ params_pieces f.params f.variadic ++ (Mark 41 ∷ [])
+head_pieces f = type_pieces f.result ++ (Blank ∷ []) ++ (Global f.name ∷ []) ++ (Mark 40 ∷ []) ++ params_pieces f.params f.variadic ++ (Mark 41 ∷ [])
 
 -- an instruction on its line, behind two blanks
 abbrev pub instruction_line : Instruction Name TypeV ConstantV → List Piece
@@ -62,13 +62,16 @@ instruction_line i = (Blank ∷ Blank ∷ instruction_pieces i) ++ (LineEnd ∷ 
 abbrev pub block_pieces : Block Name TypeV ConstantV → List Piece
 block_pieces b = Label b.label ∷ LineEnd ∷ joined (map instruction_line b.instructions)
 
--- `declare HEAD`, or `define HEAD {`, the blocks, and `}` on a line
-abbrev pub defined_pieces : Bool → List Piece → List Piece → List Piece
-defined_pieces true head blocks = (Word (codes "declare") ∷ Blank ∷ head) ++ (LineEnd ∷ [])
-defined_pieces false head blocks = (Word (codes "define") ∷ Blank ∷ head) ++ (Blank ∷ Mark 123 ∷ LineEnd ∷ blocks) ++ (Mark 125 ∷ LineEnd ∷ [])
+-- `declare HEAD`
+abbrev pub declared_pieces : Function Name TypeV ConstantV → List Piece
+declared_pieces f = (Word (codes "declare") ∷ Blank ∷ head_pieces f) ++ (LineEnd ∷ [])
+
+-- `define HEAD {`, the blocks, and `}` on a line
+abbrev pub defined_pieces : Function Name TypeV ConstantV → List Piece
+defined_pieces f = (Word (codes "define") ∷ Blank ∷ head_pieces f) ++ (Blank ∷ Mark 123 ∷ LineEnd ∷ []) ++ joined (map block_pieces f.blocks) ++ (Mark 125 ∷ LineEnd ∷ [])
 
 unfoldable pub function_pieces : Function Name TypeV ConstantV → List Piece
-function_pieces f = defined_pieces f.declared (head_pieces f) (joined (map block_pieces f.blocks))
+function_pieces f = if f.declared then declared_pieces f else defined_pieces f
 
 -- types, globals and functions, each in text order
 abbrev pub items_pieces : List (NamedType Name TypeV) → List (GlobalItem Name TypeV ConstantV) → List (Function Name TypeV ConstantV) → List Piece

@@ -404,6 +404,28 @@ fn put_select(
     put_next_argument(alloc, to, names, on_false)
 }
 
+/// A `select` of two operands of one type.
+#[tactic(auto, unfolding(crate::specs::Instructions::instruction_pieces, ir_tree::specs::Shown::shown))]
+fn put_choice(
+    alloc: Global,
+    to: &mut Bytes,
+    names: &Names,
+    name: NameId,
+    condition: Operand,
+    of: TypeId,
+    on_true: Operand,
+    on_false: Operand,
+) -> Result<(), Memory>
+    ensures { OnOk result (to.new ≡ to.old ++ bytes_of (instruction_pieces (shown names.now (instruction.Select name condition of on_true on_false)))) }
+{
+    let first = Argument { of, value: on_true };
+    let second = Argument {
+        of,
+        value: on_false,
+    };
+    put_select(alloc, to, names, name, condition, first, second)
+}
+
 fn put_phi(
     alloc: Global,
     to: &mut Bytes,
@@ -555,4 +577,116 @@ fn put_switch(
     to.append(b" [ ")?;
     put_cases(alloc, to, names, of, cases)?;
     to.append(b"]")
+}
+
+/// An instruction, without blanks before it.
+pub(crate) fn put_instruction(
+    alloc: Global,
+    to: &mut Bytes,
+    names: &Names,
+    it: &Instruction,
+) -> Result<(), Memory>
+    ensures { OnOk result (to.new ≡ to.old ++ bytes_of (instruction_pieces (shown names.now it.now))) }
+{
+    match it {
+        Instruction::Binary {
+            to: name,
+            op,
+            flags,
+            of,
+            left,
+            right,
+        } => put_binary(alloc, to, names, *name, *op, *flags, *of, *left, *right),
+        Instruction::Cast {
+            to: name,
+            op,
+            flags,
+            of,
+            value,
+            target,
+        } => put_cast(alloc, to, names, *name, *op, *flags, *of, *value, *target),
+        Instruction::Freeze {
+            to: name,
+            of,
+            value,
+        } => put_freeze(alloc, to, names, *name, *of, *value),
+        Instruction::Compare {
+            to: name,
+            pred,
+            of,
+            left,
+            right,
+        } => put_compare(alloc, to, names, *name, *pred, *of, *left, *right),
+        Instruction::Select {
+            to: name,
+            condition,
+            of,
+            on_true,
+            on_false,
+        } => put_choice(
+            alloc, to, names, *name, *condition, *of, *on_true, *on_false,
+        ),
+        Instruction::Phi { to: name, of, arms } => {
+            put_phi(alloc, to, names, *name, *of, arms.as_slice())
+        }
+        Instruction::Alloca {
+            to: name,
+            of,
+            count,
+        } => put_alloca(alloc, to, names, *name, *of, *count),
+        Instruction::Load {
+            to: name,
+            of,
+            pointer,
+        } => put_load(alloc, to, names, *name, *of, *pointer),
+        Instruction::Store { of, value, pointer } => {
+            put_store(alloc, to, names, *of, *value, *pointer)
+        }
+        Instruction::Address {
+            to: name,
+            inbounds,
+            of,
+            base,
+            indices,
+        } => put_address(
+            alloc,
+            to,
+            names,
+            *name,
+            *inbounds,
+            *of,
+            *base,
+            indices.as_slice(),
+        ),
+        Instruction::Call {
+            to: name,
+            of,
+            variadic,
+            callee,
+            arguments,
+        } => put_call(
+            alloc,
+            to,
+            names,
+            *name,
+            *of,
+            *variadic,
+            *callee,
+            arguments.as_slice(),
+        ),
+        Instruction::Return { value } => put_return(alloc, to, names, *value),
+        Instruction::Jump { target } => put_jump(to, names, *target),
+        Instruction::Branch {
+            condition,
+            on_true,
+            on_false,
+        } => put_branch(alloc, to, names, *condition, *on_true, *on_false),
+        Instruction::Switch {
+            of,
+            value,
+            default,
+            cases,
+        } => put_switch(alloc, to, names, *of, *value, *default, cases.as_slice()),
+        Instruction::Unreachable => to.append(b"unreachable"),
+    }
 }

@@ -2,6 +2,8 @@
 #![tactic(auto)]
 
 mod instructions;
+mod items;
 mod nested;
 mod operands;
+pub mod print;
 mod spelling;
