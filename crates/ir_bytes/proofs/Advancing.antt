@@ -1,25 +1,23 @@
 -- A constant's bytes are those of its parts, one after another.
-use Rattle.std.proofs.Common.{◌≡◌, ℕ, zero, suc, ◌+◌, ◌-◌, ◌<◌, ◌≤◌, max, Bool, List, [], ◌∷◌, ◌++◌, length, map, Option, Some, None, slice_get, refl, sym, ap, subst, ◌∙◌, arith, All, append_assoc, length-append}
-use Rattle.std.specs.List.{AllByRecursion}
+use Rattle.std.proofs.Common.{◌≡◌, ℕ, ◌+◌, ◌-◌, ◌<◌, ◌≤◌, max, Bool, List, [], ◌∷◌, ◌++◌, length, map, Option, Some, None, slice_get, refl, sym, ap, ◌∙◌, arith, append_assoc, length-append}
 use Rattle.std.proofs.lemmas.List.{append-nil}
-use Rattle.std.proofs.lemmas.List.Elements.{recursion_from_All}
-use Rattle.std.proofs.lemmas.Option.{slice_get_within}
 use Rattle.ir_tree.specs.declared.nodes.Element.{Element}
 use Rattle.ir_tree.specs.declared.nodes.ConstantNode.{ConstantNode}
 use Rattle.ir_tree.specs.declared.nodes.ConstantNode.TheVariants as constant
-use Rattle.ir_tree.specs.Table.{Table, IsTable, ElementBefore, ConstantWithin}
-use Rattle.ir_tree.specs.Trees.{TypeV, ConstantV, IntegerC, NullC, ZeroC, TextC, ArrayC, StructC, NameC, AddressC, ElementsV, NoneC, MoreC}
-use Rattle.ir_tree.specs.Naming.{ElementWithin, name_at, type_at, constant_at, constant_of_node, elements_at}
+use Rattle.ir_tree.specs.Table.{IsTable}
+use Rattle.ir_tree.specs.Trees.{ConstantV, IntegerC, NullC, ZeroC, TextC, ArrayC, StructC, NameC, AddressC}
+use Rattle.ir_tree.specs.Naming.{name_at, type_at, constant_at, elements_at}
 use Rattle.ir_tree.specs.Modules.{Items}
 use Rattle.ir_code.specs.declared.op.Fixed.{Fixed}
 use Rattle.ir_code.specs.Fixed.{fixed_of, fixed_at}
+use Rattle.ir_tree.proofs.Opened.{constant_past}
 use Rattle.ir_code.proofs.Values.{constant_is}
 use Rattle.mem_image.specs.declared.object.Byte.{Byte}
 use Rattle.mem_image.specs.declared.object.Byte.TheVariants.{Num}
 use Rattle.ir_bytes.specs.declared.initial.Work.{Work}
 use Rattle.ir_bytes.specs.declared.initial.Work.TheVariants as work
 use Rattle.ir_bytes.specs.Initial.{zeros, size_in, aligned_in, gap, padded, scalar_bytes, bytes_of, array_bytes, struct_bytes, bytes_at}
-use Rattle.ir_bytes.specs.Works.{with_work, laid_out, value_works, field_works, greatest, struct_works, weight, weights, work_weight, load, IsWork, AreWorks, AreAligned, Lays, Advances}
+use Rattle.ir_bytes.specs.Works.{laid_out, value_works, field_works, greatest, struct_works, weight, weights, load, AreWorks, AreAligned, Lays, Advances}
 
 -- ---- what is to come
 
@@ -62,11 +60,11 @@ fields_load : (m : Items) (packed : Bool) (start align : ℕ) (es : List Element
 fields_load m packed start align [] works = omega arith
 fields_load m packed start align (e ∷ es) works = let less = fields_load m packed start align es works in omega arith
 
--- ---- what is to come is of the table
+-- ---- padding is to a multiple of an alignment
 
-values_inside : (m : Items) (es : List Element) (works : List Work) → AllByRecursion (ElementWithin m.names) es → AreWorks m works → AreWorks m (value_works es ++ works)
-values_inside m [] works all inside = inside
-values_inside m (e ∷ es) works all inside = (all.0, values_inside m es works all.1 inside)
+values_inside : (es : List Element) (works : List Work) → AreWorks works → AreWorks (value_works es ++ works)
+values_inside [] works inside = inside
+values_inside (e ∷ es) works inside = (tt, values_inside es works inside)
 
 greatest_more : (m : Items) (packed : Bool) (align : ℕ) (es : List Element) → align ≤ greatest m packed align es
 greatest_more m packed align [] = omega arith
@@ -75,28 +73,10 @@ greatest_more m packed align (e ∷ es) =
     let more = greatest_more m packed (max align a) es in
     omega arith
 
-fields_inside : (m : Items) (packed : Bool) (start align : ℕ) (es : List Element) (works : List Work) → AllByRecursion (ElementWithin m.names) es → AreAligned m packed es → 0 < align → AreWorks m works
-    → AreWorks m (field_works m packed start es ++ work.Padding start align ∷ works)
-fields_inside m packed start align [] works all aligned some inside = (some, inside)
-fields_inside m packed start align (e ∷ es) works all aligned some inside = (aligned.0, (all.0, fields_inside m packed start align es works all.1 aligned.1 some inside))
-
-pub within_table : (t : Table) (k : ℕ) (es : List Element) → k ≤ length t.constants → AllByRecursion (ElementBefore (length t.types) k) es → AllByRecursion (ElementWithin t) es
-within_table t k [] le all = tt
-within_table t k (e ∷ es) le all = (record { of = all.0.of; value = let lt = all.0.value in omega arith }, within_table t k es le all.1)
-
-elements_later : (types k count : ℕ) (es : List Element) → k ≤ count → All (ElementBefore types k) es → All (ElementBefore types count) es
-elements_later types k count es le all = λ i d lt. record { of = (all i d lt).of; value = let h = (all i d lt).value in omega arith }
-
--- what stands in a constant of the table is of the table
-pub within_later : (names types k count : ℕ) (n : ConstantNode) → k ≤ count → ConstantWithin names types k n → ConstantWithin names types count n
-within_later names types k count (constant.Integer n) le within = tt
-within_later names types k count constant.Null le within = tt
-within_later names types k count constant.Zero le within = tt
-within_later names types k count (constant.Text bytes) le within = tt
-within_later names types k count (constant.Array es) le within = elements_later types k count es le within
-within_later names types k count (constant.Struct packed es) le within = elements_later types k count es le within
-within_later names types k count (constant.Name x) le within = within
-within_later names types k count (constant.Address of base es) le within = (within.0, omega arith, elements_later types k count es le within.2)
+fields_inside : (m : Items) (packed : Bool) (start align : ℕ) (es : List Element) (works : List Work) → AreAligned m packed es → 0 < align → AreWorks works
+    → AreWorks (field_works m packed start es ++ work.Padding start align ∷ works)
+fields_inside m packed start align [] works aligned some inside = (some, inside)
+fields_inside m packed start align (e ∷ es) works aligned some inside = (aligned.0, (tt, fields_inside m packed start align es works aligned.1 some inside))
 
 -- ---- one constant
 
@@ -108,47 +88,52 @@ module _ (m : Items) (e : Element) (so : List Byte) (works : List Work) (new : L
     lighter = rw (same, is, one) (omega arith);
   }
 
-  array : (es : List Element) → constant_at m.names e.value ≡ ArrayC (elements_at m.names es) → AllByRecursion (ElementWithin m.names) es → new ≡ so → after ≡ value_works es ++ works → Advances m so (work.Value e) works new after
-  array es is all laid put = record {
+  array : (es : List Element) → constant_at m.names e.value ≡ ArrayC (elements_at m.names es) → new ≡ so → after ≡ value_works es ++ works → Advances m so (work.Value e) works new after
+  array es is laid put = record {
     same = rw (laid, put, is) (values_laid m so es works);
-    inside = λ inside. rw put (values_inside m es works all inside);
+    inside = λ inside. rw put (values_inside es works inside);
     lighter = rw (put, is) (let less = values_load m es works in omega arith);
   }
 
-  structure : (packed : Bool) (es : List Element) → constant_at m.names e.value ≡ StructC packed (elements_at m.names es) → AllByRecursion (ElementWithin m.names) es → AreAligned m packed es → new ≡ so
+  structure : (packed : Bool) (es : List Element) → constant_at m.names e.value ≡ StructC packed (elements_at m.names es) → AreAligned m packed es → new ≡ so
       → after ≡ struct_works m packed (length so) es ++ works → Advances m so (work.Value e) works new after
-  structure packed es is all aligned laid put =
+  structure packed es is aligned laid put =
       let flat : struct_works m packed (length so) es ++ works ≡ field_works m packed (length so) es ++ work.Padding (length so) (greatest m packed 1 es) ∷ works =
       append_assoc (field_works m packed (length so) es) (work.Padding (length so) (greatest m packed 1 es) ∷ []) works in
       let some : 0 < greatest m packed 1 es = let more = greatest_more m packed 1 es in omega arith in
       record {
         same = rw (laid, put, is) (whole_struct m packed so es works);
-        inside = λ inside. rw (put, flat) (fields_inside m packed (length so) (greatest m packed 1 es) es works all aligned some inside);
+        inside = λ inside. rw (put, flat) (fields_inside m packed (length so) (greatest m packed 1 es) es works aligned some inside);
         lighter = rw (put, flat, is) (let less = fields_load m packed (length so) (greatest m packed 1 es) es works in omega arith);
       }
 
 -- what a node laid down, or put before what is to come, is the constant's
-pub lays_advances : (m : Items) (e : Element) (n : ConstantNode) (value : Option Fixed) (so new : List Byte) (works after : List Work) → IsTable m.names → e.value ≤ length m.names.constants
+pub lays_advances : (m : Items) (e : Element) (n : ConstantNode) (value : Option Fixed) (so new : List Byte) (works after : List Work) → IsTable m.names
     → slice_get m.names.constants e.value ≡ Some n → value ≡ fixed_at m e.of e.value → Lays m e.of value so works new after n → Advances m so (work.Value e) works new after
-lays_advances m e constant.Zero value so new works after is le known fixed lays =
+lays_advances m e constant.Zero value so new works after is known fixed lays =
     leaf m e so works new after ZeroC (zeros (size_in m (type_at m.names e.of))) (constant_is m.names e.value constant.Zero is known) refl refl lays.0 lays.1
-lays_advances m e (constant.Text text) value so new works after is le known fixed lays =
+lays_advances m e (constant.Text text) value so new works after is known fixed lays =
     leaf m e so works new after (TextC text) (map Num text) (constant_is m.names e.value (constant.Text text) is known) refl refl lays.0 lays.1
-lays_advances m e (constant.Array es) value so new works after is le known fixed lays =
-    array m e so works new after es (constant_is m.names e.value (constant.Array es) is known)
-    (within_table m.names e.value es le (recursion_from_All (ElementBefore (length m.names.types) e.value) es (is.constants e.value (constant.Array es) known))) lays.0 lays.1
-lays_advances m e (constant.Struct packed es) value so new works after is le known fixed lays =
-    structure m e so works new after packed es (constant_is m.names e.value (constant.Struct packed es) is known)
-    (within_table m.names e.value es le (recursion_from_All (ElementBefore (length m.names.types) e.value) es (is.constants e.value (constant.Struct packed es) known))) lays.2 lays.0 lays.1
-lays_advances m e (constant.Integer n) value so new works after is le known fixed lays =
+lays_advances m e (constant.Array es) value so new works after is known fixed lays =
+    array m e so works new after es (constant_is m.names e.value (constant.Array es) is known) lays.0 lays.1
+lays_advances m e (constant.Struct packed es) value so new works after is known fixed lays =
+    structure m e so works new after packed es (constant_is m.names e.value (constant.Struct packed es) is known) lays.2 lays.0 lays.1
+lays_advances m e (constant.Integer n) value so new works after is known fixed lays =
     let at = constant_is m.names e.value (constant.Integer n) is known in
     leaf m e so works new after (IntegerC n) (scalar_bytes value) at (ap scalar_bytes (sym (fixed ∙ ap (fixed_of m (type_at m.names e.of)) at))) refl lays.0 lays.1
-lays_advances m e constant.Null value so new works after is le known fixed lays =
+lays_advances m e constant.Null value so new works after is known fixed lays =
     let at = constant_is m.names e.value constant.Null is known in
     leaf m e so works new after NullC (scalar_bytes value) at (ap scalar_bytes (sym (fixed ∙ ap (fixed_of m (type_at m.names e.of)) at))) refl lays.0 lays.1
-lays_advances m e (constant.Name x) value so new works after is le known fixed lays =
+lays_advances m e (constant.Name x) value so new works after is known fixed lays =
     let at = constant_is m.names e.value (constant.Name x) is known in
     leaf m e so works new after (NameC (name_at m.names x)) (scalar_bytes value) at (ap scalar_bytes (sym (fixed ∙ ap (fixed_of m (type_at m.names e.of)) at))) refl lays.0 lays.1
-lays_advances m e (constant.Address of base es) value so new works after is le known fixed lays =
+lays_advances m e (constant.Address of base es) value so new works after is known fixed lays =
     let at = constant_is m.names e.value (constant.Address of base es) is known in
     leaf m e so works new after (AddressC (type_at m.names of) (constant_at m.names base) (elements_at m.names es)) (scalar_bytes value) at (ap scalar_bytes (sym (fixed ∙ ap (fixed_of m (type_at m.names e.of)) at))) refl lays.0 lays.1
+
+-- a number of no constant is taken for `null`
+pub past_advances : (m : Items) (e : Element) (value : Option Fixed) (so new : List Byte) (works : List Work) → slice_get m.names.constants e.value ≡ None → value ≡ fixed_at m e.of e.value
+    → new ≡ so ++ scalar_bytes value → Advances m so (work.Value e) works new works
+past_advances m e value so new works missing fixed laid =
+    let at = constant_past m.names e.value missing in
+    leaf m e so works new works NullC (scalar_bytes value) at (ap scalar_bytes (sym (fixed ∙ ap (fixed_of m (type_at m.names e.of)) at))) refl laid refl

@@ -1,5 +1,5 @@
 -- Bytes laid down one after another.
-use Rattle.std.proofs.Common.{◌≡◌, ℕ, suc, ◌+◌, ◌/◌, ◌%◌, List, [], ◌∷◌, ◌++◌, append_assoc}
+use Rattle.std.proofs.Common.{◌≡◌, ℕ, suc, ◌/◌, ◌%◌, List, [], ◌∷◌, ◌++◌, append_assoc}
 use Rattle.mem_image.specs.declared.object.Byte.{Byte}
 use Rattle.mem_image.specs.declared.object.Byte.TheVariants.{Num}
 use Rattle.ir_bytes.specs.Initial.{low_bytes}

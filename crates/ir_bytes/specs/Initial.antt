@@ -1,7 +1,6 @@
 -- The first bytes of globals, and the memory in which a program starts.
-use Rattle.std.specs.Prelude.{ℕ, zero, suc, ◌≡◌, ◌≤◌, ◌+◌, ◌-◌, ◌/◌, ◌%◌, max, pos, Bool, true, false, List, [], ◌∷◌, ◌++◌, length, map, replicate, Option, Some, None}
+use Rattle.std.specs.Prelude.{ℕ, zero, suc, ◌≤◌, ◌+◌, ◌-◌, ◌/◌, ◌%◌, max, Bool, true, false, List, [], ◌∷◌, ◌++◌, length, map, replicate, Option}
 use Rattle.std.specs.Option.{option_map_or}
-use Rattle.pv_base.specs.declared.name.Name.{Name}
 use Rattle.pv_base.specs.declared.place.AllocSite.TheVariants as site
 use Rattle.ir_tree.specs.declared.items.Global.{Global as Variable}
 use Rattle.ir_tree.specs.Trees.{TypeV}

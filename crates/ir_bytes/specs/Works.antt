@@ -4,7 +4,7 @@ use Rattle.ir_tree.specs.declared.nodes.Element.{Element}
 use Rattle.ir_tree.specs.declared.nodes.ConstantNode.{ConstantNode}
 use Rattle.ir_tree.specs.declared.nodes.ConstantNode.TheVariants as constant
 use Rattle.ir_tree.specs.Trees.{ConstantV, IntegerC, NullC, ZeroC, TextC, ArrayC, StructC, NameC, AddressC, ElementsV, NoneC, MoreC}
-use Rattle.ir_tree.specs.Naming.{ElementWithin, type_at, constant_at}
+use Rattle.ir_tree.specs.Naming.{type_at, constant_at}
 use Rattle.ir_tree.specs.Modules.{Items}
 use Rattle.ir_code.specs.declared.op.Fixed.{Fixed}
 use Rattle.mem_image.specs.declared.object.Byte.{Byte}
@@ -66,14 +66,14 @@ abbrev pub load : Items → List Work → ℕ
 load m [] = 0
 load m (w ∷ ws) = work_weight m w + load m ws
 
--- the numbers of a piece are of the table, and its alignment is one
-abbrev pub IsWork : Items → Work → Type 0
-IsWork m (work.Value e) = ElementWithin m.names e
-IsWork m (work.Padding start align) = 0 < align
+-- padding is to a multiple of an alignment
+abbrev pub IsWork : Work → Type 0
+IsWork (work.Value e) = Unit {0}
+IsWork (work.Padding start align) = 0 < align
 
-abbrev pub AreWorks : Items → List Work → Type 0
-AreWorks m [] = Unit {0}
-AreWorks m (w ∷ ws) = IsWork m w × AreWorks m ws
+abbrev pub AreWorks : List Work → Type 0
+AreWorks [] = Unit {0}
+AreWorks (w ∷ ws) = IsWork w × AreWorks ws
 
 -- each field has an alignment
 abbrev pub AreAligned : Items → Bool → List Element → Type 0
@@ -91,5 +91,5 @@ Lays m type value so works new after other = (new ≡ so ++ scalar_bytes value) 
 -- one piece is done, and fewer are to come
 pub record Advances (m : Items) (so : List Byte) (w : Work) (works : List Work) (new : List Byte) (after : List Work) : Type 0 where
   pub same : laid_out m new after ≡ laid_out m (with_work m so w) works
-  pub inside : AreWorks m works → AreWorks m after
+  pub inside : AreWorks works → AreWorks after
   pub lighter : load m after < work_weight m w + load m works

@@ -1,7 +1,6 @@
 //! The first bytes of a global, from its type and its initialiser, however deep they are nested.
 ghost use Rattle.std.specs.Prelude.{◌≡◌, ◌<◌, ◌++◌, reverse, max, length, map, All, IfOk, OnOk};
-ghost use Rattle.ir_tree.specs.Naming.{ElementWithin, ElementsWithin, type_at};
-ghost use Rattle.ir_tree.specs.Table.{ConstantWithin};
+ghost use Rattle.ir_tree.specs.Naming.{type_at};
 ghost use Rattle.ir_code.specs.Fixed.{AreFixed};
 ghost use Rattle.ir_bytes.specs.Initial.{bytes_at};
 ghost use Rattle.ir_bytes.specs.Works.{value_works, field_works, greatest, struct_works, Lays, Advances, IsWork, AreAligned};
@@ -35,7 +34,6 @@ fn push_values(work: &mut List<Work>, elements: &[Element]) -> Result<(), Memory
 
 /// The greatest alignment of fields.
 fn greatest(module: &Module, packed: bool, fields: &[Element]) -> u64
-    requires { ElementsWithin module.now.names fields.now }
     ensures value { result ≡ greatest module.now packed 1 fields.now }
     ensures some { 0 < result }
 {
@@ -54,7 +52,6 @@ fn push_fields(
     fields: &[Element],
     work: &mut List<Work>,
 ) -> Result<(), Memory>
-    requires { ElementsWithin module.now.names fields.now }
     ensures put { OnOk result (reverse work.new ≡ field_works module.now packed start fields.now ++ reverse work.old) }
     ensures aligned { OnOk result (AreAligned module.now packed fields.now) }
 {
@@ -75,7 +72,6 @@ fn push_struct(
     fields: &[Element],
     work: &mut List<Work>,
 ) -> Result<(), Memory>
-    requires { ElementsWithin module.now.names fields.now }
     ensures put { OnOk result (reverse work.new ≡ struct_works module.now packed start fields.now ++ reverse work.old) }
     ensures aligned { OnOk result (AreAligned module.now packed fields.now) }
 {
@@ -93,8 +89,6 @@ fn lay_node(
     work: &mut List<Work>,
     bytes: &mut List<Byte>,
 ) -> Result<(), Memory>
-    requires of { of < length module.now.names.types }
-    requires node { ConstantWithin (length module.now.names.names) (length module.now.names.types) (length module.now.names.constants) node.now }
     ensures { OnOk result (Lays module.now of value bytes.old (reverse work.old) bytes.new (reverse work.new) node.now) }
 {
     match node {
@@ -116,8 +110,7 @@ fn lay_value(
     work: &mut List<Work>,
     bytes: &mut List<Byte>,
 ) -> Result<(), Memory>
-    requires fixed { AreFixed module.now constants.now }
-    requires within { ElementWithin module.now.names next }
+    requires { AreFixed module.now constants.now }
     ensures { OnOk result (Advances module.now bytes.old (Work.Value next) (reverse work.old) bytes.new (reverse work.new)) }
 {
     let names = module.names();
@@ -125,7 +118,7 @@ fn lay_value(
     let value = constants.at(module, next.of, next.value);
     match names.constant_node(next.value) {
         Some(node) => lay_node(module, next.of, node, value, work, bytes),
-        None => Ok(()),
+        None => push_scalar(bytes, value),
     }
 }
 
@@ -138,7 +131,7 @@ fn lay(
     bytes: &mut List<Byte>,
 ) -> Result<(), Memory>
     requires fixed { AreFixed module.now constants.now }
-    requires within { IsWork module.now next }
+    requires within { IsWork next }
     ensures { OnOk result (Advances module.now bytes.old next (reverse work.old) bytes.new (reverse work.new)) }
 {
     match next {
@@ -157,9 +150,7 @@ pub fn initial_bytes(
     of: TypeId,
     value: ConstantId,
 ) -> Result<List<Byte>, Memory>
-    requires fixed { AreFixed module.now constants.now }
-    requires of { of < length module.now.names.types }
-    requires value { value < length module.now.names.constants }
+    requires { AreFixed module.now constants.now }
     ensures { IfOk result (λ b. b ≡ bytes_at module.now of value) }
 {
     let mut work = List::new(alloc);

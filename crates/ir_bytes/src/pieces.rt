@@ -7,7 +7,7 @@ ghost use Rattle.ir_bytes.specs.Initial.{zeros, low_bytes, byte_count, pointer_b
 use int_num::int::Int;
 use ir_code::op::Fixed;
 use ir_tree::nodes::TypeId;
-use ir_tree::whole::{Module, layout, layout_is_bounded};
+use ir_tree::whole::{Module, layout_at, layout_is_bounded};
 use mem_image::object::{Byte, Pointer};
 use pv_base::list::List;
 use pv_base::want::Memory;
@@ -108,10 +108,9 @@ pub(crate) fn push_scalar(bytes: &mut List<Byte>, value: Option<Fixed>) -> Resul
 
 /// The size of a type, and 0 where it has none.
 pub(crate) fn size(module: &Module, of: TypeId) -> u64
-    requires { of < length module.now.names.types }
     ensures { result ≡ size_in module.now (type_at module.now.names of) }
 {
-    match layout(module, of) {
+    match layout_at(module, of) {
         Some(layout) => layout.size,
         None => 0,
     }
@@ -119,7 +118,6 @@ pub(crate) fn size(module: &Module, of: TypeId) -> u64
 
 /// The alignment of a field of a type, and 1 where it has none.
 pub(crate) fn alignment(module: &Module, packed: bool, of: TypeId) -> u64
-    requires { of < length module.now.names.types }
     ensures value { result ≡ aligned_in module.now packed (type_at module.now.names of) }
     ensures some { 0 < result }
 {
@@ -127,7 +125,7 @@ pub(crate) fn alignment(module: &Module, packed: bool, of: TypeId) -> u64
     if packed {
         return 1;
     }
-    match layout(module, of) {
+    match layout_at(module, of) {
         Some(layout) => layout.align,
         None => 1,
     }

@@ -2,7 +2,6 @@
 ghost use Rattle.std.specs.Prelude.{◌≡◌, ◌<◌, ◌≤◌, ◌^◌, nat_lt, if◌then◌else◌, pos, length, slice_set, IfOk, None, Some, slice_index_or};
 ghost use Rattle.ir_tree.specs.Naming.{type_at, constant_at};
 ghost use Rattle.ir_tree.specs.Trees.{PtrV};
-ghost use Rattle.ir_tree.specs.Table.{ConstantWithin};
 ghost use Rattle.ir_code.specs.Fixed.{scaled_by, amount, total_of, stays, moved, zero_of, fixed_of, fixed_at, AreFixed};
 ghost use Rattle.ir_code.specs.Walking.{node_zero, AreNamed, AreFixedBelow, PutsItems, value_at, operands_at, address_at, node_fixed};
 
@@ -206,7 +205,6 @@ fn address(
     base: Option<Fixed>,
     operands: &[Operand],
 ) -> Result<Option<Fixed>, Memory>
-    requires { of < length module.now.names.types }
     ensures { IfOk result (λ r. r ≡ address_at module.now of base operands.now) }
 {
     let base = match base {
@@ -231,7 +229,6 @@ fn node_fixed(
     found: &[Option<Fixed>],
     node: &ConstantNode,
 ) -> Result<Option<Fixed>, Memory>
-    requires { ConstantWithin (length module.now.names.names) (length module.now.names.types) (length found.now) node.now }
     ensures { IfOk result (λ r. r ≡ node_fixed module.now items.now found.now node.now) }
 {
     match node {

@@ -1,6 +1,5 @@
 //! The indices of `getelementptr`, as strides and offsets.
-ghost use Rattle.std.specs.Prelude.{◌≡◌, ◌<◌, ◌++◌, length, slice_get, option_map, option_and_then, IfOk, All};
-ghost use Rattle.ir_tree.specs.Table.{TypeWithin};
+ghost use Rattle.std.specs.Prelude.{◌≡◌, ◌++◌, slice_get, option_map, option_and_then, IfOk};
 ghost use Rattle.ir_tree.specs.Naming.{name_at, type_at, types_at, type_of_node};
 ghost use Rattle.ir_tree.specs.Modules.{types_of};
 ghost use Rattle.ir_code.specs.Strides.{integer_index, fixed_index, field_index, stride_in, field_stride, scaled, stride, inner_strides, strides};
@@ -9,7 +8,7 @@ ghost use Rattle.ir_code.specs.Leading.{LeadsTo};
 use crate::op::{Fixed, Index, Operand};
 use int_num::int::Int;
 use ir_tree::nodes::{TypeId, TypeNode};
-use ir_tree::whole::{Module, field_place, layout, opened};
+use ir_tree::whole::{Module, field_place, layout_at, opened};
 use pv_base::list::List;
 use pv_base::want::Memory;
 use std::alloc::Global;
@@ -52,10 +51,9 @@ struct Step {
 
 /// So many values of a type.
 fn scaled(module: &Module, of: TypeId, value: Operand) -> Option<Step>
-    requires { of < length module.now.names.types }
     ensures { LeadsTo module.now result (scaled (types_of module.now) (type_at module.now.names of) value) }
 {
-    let layout = layout(module, of)?;
+    let layout = layout_at(module, of)?;
     let index = Index::Scaled {
         value,
         stride: layout.size,
@@ -71,8 +69,6 @@ fn type_in(fields: &[TypeId], number: u32) -> Option<TypeId>
 
 /// A field of a struct with fields of these types.
 fn field(module: &Module, of: TypeId, fields: &[TypeId], value: Operand) -> Option<Step>
-    requires of { of < length module.now.names.types }
-    requires fields { All (λ k. k < length module.now.names.types) fields.now }
     ensures { LeadsTo module.now result (option_and_then (field_stride (types_of module.now) (type_at module.now.names of) (types_at module.now.names fields.now)) (field_index value)) }
 {
     let number = field_index(value)?;
@@ -88,8 +84,6 @@ fn field(module: &Module, of: TypeId, fields: &[TypeId], value: Operand) -> Opti
 
 /// An index into a type that is no name.
 fn stride_in(module: &Module, of: TypeId, node: &TypeNode, value: Operand) -> Option<Step>
-    requires of { of < length module.now.names.types }
-    requires node { TypeWithin (length module.now.names.names) (length module.now.names.types) node.now }
     ensures { LeadsTo module.now result (stride_in (types_of module.now) (type_at module.now.names of) value (type_of_node (name_at module.now.names) (type_at module.now.names) node.now)) }
 {
     match node {
@@ -104,7 +98,6 @@ fn stride_in(module: &Module, of: TypeId, node: &TypeNode, value: Operand) -> Op
 
 /// An index into a type, which may be named.
 fn stride(module: &Module, of: TypeId, value: Operand) -> Option<Step>
-    requires { of < length module.now.names.types }
     ensures { LeadsTo module.now result (stride (types_of module.now) (type_at module.now.names of) value) }
 {
     module.names().is_table();
@@ -122,7 +115,6 @@ fn inner_strides(
     values: &[Operand],
     front: List<Index>,
 ) -> Result<Option<List<Index>>, Memory>
-    requires { of < length module.now.names.types }
     ensures { IfOk result (λ r. r ≡ option_map (λ rest. front ++ rest) (inner_strides (types_of module.now) (type_at module.now.names of) values.now)) }
 {
     let mut indices = front;
@@ -146,7 +138,6 @@ pub fn strides(
     of: TypeId,
     values: &[Operand],
 ) -> Result<Option<List<Index>>, Memory>
-    requires { of < length module.now.names.types }
     ensures { IfOk result (λ r. r ≡ strides (types_of module.now) (type_at module.now.names of) values.now) }
 {
     let mut indices = List::new(alloc);

@@ -1,18 +1,18 @@
--- What a type is a name of, by what was found.
-use Rattle.std.proofs.Common.{◌≡◌, ℕ, ◌<◌, List, length, Option, Some, None, slice_get, get_or, refl, sym, ap, ◌∙◌, arith, All}
-use Rattle.std.specs.Prelude.{option_map, IfSome}
+-- What a type is a name of, by what was found, and what a number that the table lacks is taken for.
+use Rattle.std.proofs.Common.{◌≡◌, ℕ, zero, suc, ◌<◌, List, [], ◌∷◌, ◌++◌, length, Option, Some, None, slice_get, get_or, refl, sym, ap, ◌∙◌, arith, All}
+use Rattle.std.specs.Prelude.{option_map}
 use Rattle.std.proofs.lemmas.List.Elements.{recursion_from_All}
-use Rattle.std.proofs.lemmas.Option.{slice_get_within}
 use Rattle.pv_base.specs.declared.name.Name.{Name}
 use Rattle.ir_tree.specs.declared.items.NamedType.{NamedType}
 use Rattle.ir_tree.specs.declared.nodes.TypeNode.{TypeNode}
 use Rattle.ir_tree.specs.declared.nodes.TypeNode.TheVariants as node
 use Rattle.ir_tree.specs.Table.{Table, IsTable}
-use Rattle.ir_tree.specs.Naming.{name_at, type_at}
+use Rattle.ir_tree.specs.Trees.{PtrV, NullC}
+use Rattle.ir_tree.specs.Naming.{meanings, name_at, type_at, type_of_node, constant_at, constant_of_node}
 use Rattle.ir_tree.specs.Layouts.{opened, type_named}
-use Rattle.ir_tree.specs.Filling.{named_types, NamedWithin, body_of, Found, IsFound, node_body}
+use Rattle.ir_tree.specs.Filling.{named_types, NamedWithin, Found, IsFound, node_body}
 use Rattle.ir_tree.proofs.Filled.{type_is}
-use Rattle.ir_tree.proofs.Bodies.{named_body, body_inside}
+use Rattle.ir_tree.proofs.Bodies.{named_body}
 
 pub opened_is : (t : Table) (ns : List (NamedType ℕ ℕ)) (f : Found) (k : ℕ) (n : TypeNode) → IsTable t → IsFound t ns f → slice_get t.types k ≡ Some n
     → option_map (type_at t) (node_body f n k) ≡ opened (named_types t ns) (type_at t k)
@@ -26,15 +26,19 @@ opened_is t ns f k (node.Named x) is found known =
     rw (type_is t k (node.Named x) is known)
     (ap (option_map (type_at t)) (found.bodies.each x lt) ∙ sym (named_body t ns x is (recursion_from_All (NamedWithin t) ns found.within) lt))
 
-body_within : (t : Table) (ns : List (NamedType ℕ ℕ)) (x : ℕ) (o b : Option ℕ) → All (NamedWithin t) ns → o ≡ b → b ≡ body_of ns x → IfSome o (λ j. j < length t.types)
-body_within t ns x None b all e is = tt
-body_within t ns x (Some j) b all e is = body_inside t ns x j (recursion_from_All (NamedWithin t) ns all) (sym (e ∙ is))
+past : {N V : Type 0} (step : (ℕ → V) → N → V) (none : V) (before : List V) (ns : List N) (k : ℕ) → slice_get ns k ≡ None → get_or (meanings step none before ns) k none ≡ none
+unfolding meanings
+past step none before [] k e = refl
+past step none before (n ∷ ns) zero e = absurd cc
+past {V = V} step none before (n ∷ ns) (suc k) e =
+    let first : V = step (λ j. get_or before j none) n in
+    past step none (before ++ first ∷ []) ns k e
 
-pub opened_inside : (t : Table) (ns : List (NamedType ℕ ℕ)) (f : Found) (k : ℕ) (n : TypeNode) → IsTable t → IsFound t ns f → slice_get t.types k ≡ Some n → IfSome (node_body f n k) (λ j. j < length t.types)
-opened_inside t ns f k (node.Int w) is found known = slice_get_within t.types k _ known
-opened_inside t ns f k node.Ptr is found known = slice_get_within t.types k _ known
-opened_inside t ns f k node.Void is found known = slice_get_within t.types k _ known
-opened_inside t ns f k (node.Array m of) is found known = slice_get_within t.types k _ known
-opened_inside t ns f k (node.Struct packed ks) is found known = slice_get_within t.types k _ known
-opened_inside t ns f k (node.Named x) is found known =
-    body_within t ns x (get_or f.bodies x None) (get_or f.bodies x None) found.within refl (found.bodies.each x (is.types k (node.Named x) known))
+-- a number of no type is taken for `ptr`, and one of no constant for `null`
+pub type_past : (t : Table) (k : ℕ) → slice_get t.types k ≡ None → type_at t k ≡ PtrV
+unfolding type_at
+type_past t k e = past (type_of_node (name_at t)) PtrV [] t.types k e
+
+pub constant_past : (t : Table) (k : ℕ) → slice_get t.constants k ≡ None → constant_at t k ≡ NullC
+unfolding constant_at
+constant_past t k e = past (constant_of_node (name_at t) (type_at t)) NullC [] t.constants k e

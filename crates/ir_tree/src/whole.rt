@@ -90,27 +90,35 @@ impl Module {
         self.layouts.of(of)
     }
 
+    fn layout_at(&self, of: TypeId) -> Option<Layout>
+        ensures { result ≡ layout_in self.now of }
+    {
+        match self.names.type_node(of) {
+            Some(_) => self.layouts.of(of),
+            None => Some(Layout { size: 8, align: 8 }),
+        }
+    }
+
     fn is_bounded(&self, of: TypeId)
-        requires { of < length self.now.names.types }
         ensures { IfSome (layout_in self.now of) IsLayout }
     {
-        let _ = &self.layouts;
+        match self.names.type_node(of) {
+            Some(_) => (),
+            None => (),
+        }
     }
 
     fn opened(&self, of: TypeId) -> Option<TypeId>
-        requires { of < length self.now.names.types }
-        ensures body { option_map (type_at self.now.names) result ≡ opened (types_of self.now) (type_at self.now.names of) }
-        ensures inside { IfSome result (λ k. k < length self.now.names.types) }
+        ensures { option_map (type_at self.now.names) result ≡ opened (types_of self.now) (type_at self.now.names of) }
     {
         self.names.is_table();
         match self.names.type_node(of) {
             Some(node) => self.layouts.opened(node, of),
-            None => None,
+            None => Some(of),
         }
     }
 
     fn place(&self, of: TypeId, index: u32) -> Option<u64>
-        requires { of < length self.now.names.types }
         ensures { result ≡ offset_in self.now of index }
     {
         self.names.is_table();
@@ -129,9 +137,15 @@ pub fn layout(tree: &Module, of: TypeId) -> Option<Layout>
     tree.layout(of)
 }
 
+/// The same of any number: one that the table lacks is taken for `ptr`.
+pub fn layout_at(tree: &Module, of: TypeId) -> Option<Layout>
+    ensures { result ≡ layout_in tree.now of }
+{
+    tree.layout_at(of)
+}
+
 /// A layout has a size below 2^63 and an alignment of 1 to 8.
 pub fn layout_is_bounded(tree: &Module, of: TypeId)
-    requires { of < length tree.now.names.types }
     ensures { IfSome (layout_in tree.now of) IsLayout }
 {
     tree.is_bounded(of);
@@ -151,7 +165,6 @@ pub fn field_offset(tree: &Module, of: TypeId, index: u32) -> u64
 
 /// The same offset; `None` where the type is no struct with that field, or has no layout.
 pub fn field_place(tree: &Module, of: TypeId, index: u32) -> Option<u64>
-    requires { of < length tree.now.names.types }
     ensures { result ≡ offset_in tree.now of index }
 {
     tree.place(of, index)
@@ -160,9 +173,7 @@ pub fn field_place(tree: &Module, of: TypeId, index: u32) -> Option<u64>
 /// The number of a type, or where it is a name the number of the type that it names; `None` where a name has no type. It
 /// takes no memory, and only looks up.
 pub fn opened(tree: &Module, of: TypeId) -> Option<TypeId>
-    requires { of < length tree.now.names.types }
-    ensures body { option_map (type_at tree.now.names) result ≡ opened (types_of tree.now) (type_at tree.now.names of) }
-    ensures inside { IfSome result (λ k. k < length tree.now.names.types) }
+    ensures { option_map (type_at tree.now.names) result ≡ opened (types_of tree.now) (type_at tree.now.names of) }
 {
     tree.opened(of)
 }

@@ -6,7 +6,7 @@ use Rattle.ir_bytes.proofs.initial.initial_bytes.Given as goal
 abbrev pub invariant-pieces : goal.invariant-pieces
 invariant-pieces l = record {
   same : laid_out l.module l.bytes (reverse l.work) ≡ bytes_at l.module l.of l.value;
-  inside : AreWorks l.module (reverse l.work);
+  inside : AreWorks (reverse l.work);
 }
 
 abbrev pub decreases-pieces : goal.decreases-pieces

@@ -10,12 +10,6 @@ use Rattle.ir_code.specs.Walking.{node_fixed}
 use Rattle.ir_code.proofs.Values.{constant_is, node_right}
 use Rattle.ir_code.proofs.fixed.next_fixed.Goals as goal
 
-pub node_fixed-requires : goal.node_fixed-requires
-node_fixed-requires c =
-    let m = c.args.module.now in
-    let table = rw c.names-names.ensures at c.is_table.ensures in
-    rw (← c.requires.next) (table.constants c.args.number c.in-Some.node.now (rw c.names-names.ensures at (sym c.in-Some.ensures)))
-
 pub returns-in-Some : goal.returns-in-Some
 returns-in-Some c =
     let m = c.args.module.now in

@@ -1,6 +1,7 @@
 use Rattle.std.proofs.Common.{sym, ap, ◌∙◌}
 use Rattle.ir_code.specs.Fixed.{zero_of}
-use Rattle.ir_code.proofs.Zeros.{zero_at, type_past}
+use Rattle.ir_tree.proofs.Opened.{type_past}
+use Rattle.ir_code.proofs.Zeros.{zero_at}
 use Rattle.ir_code.proofs.fixed.zero_of.Goals as goal
 
 pub returns-in-Some : goal.returns-in-Some

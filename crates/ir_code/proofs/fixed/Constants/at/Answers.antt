@@ -2,7 +2,7 @@ use Rattle.std.proofs.Common.{sym, ap}
 use Rattle.std.proofs.lemmas.Option.{slice_get_within}
 use Rattle.ir_tree.specs.Naming.{type_at}
 use Rattle.ir_code.specs.Fixed.{fixed_of}
-use Rattle.ir_code.proofs.Zeros.{constant_past}
+use Rattle.ir_tree.proofs.Opened.{constant_past}
 use Rattle.ir_code.proofs.Values.{value_right}
 use Rattle.ir_code.proofs.fixed.Constants.at.Goals as goal
 
