@@ -8,3 +8,4 @@ pub mod Every
 pub mod Switching
 pub mod Arms
 pub mod Growing
+pub mod Looking

@@ -10,12 +10,14 @@ use Rattle.ir_tree.specs.declared.nodes.TypeNode.TheVariants as node
 use Rattle.ir_tree.specs.declared.layout.Layout.{Layout}
 use Rattle.ir_tree.specs.declared.items.Function.{Function}
 use Rattle.ir_tree.specs.Table.{Table}
+use Rattle.ir_tree.specs.Trees.{TypeV, IntV, PtrV}
 use Rattle.ir_tree.specs.Naming.{name_at}
 use Rattle.ir_tree.specs.Modules.{Items, layout_in}
 use Rattle.ir_code.specs.declared.op.Scalar.{Scalar}
 use Rattle.ir_code.specs.declared.op.Scalar.TheVariants as scalar
 use Rattle.ir_code.specs.declared.op.Fixed.{Fixed}
 use Rattle.ir_code.specs.declared.op.Fixed.TheVariants as fixed
+use Rattle.ir_code.specs.Fixed.{zero_of}
 use Rattle.ir_code.specs.declared.lookups.Constant.{Constant}
 use Rattle.ir_code.specs.declared.lookups.Constant.TheVariants as constant
 use Rattle.ir_code.specs.declared.lookups.Linkage.{Linkage}
@@ -51,15 +53,15 @@ scalar_or_pointer t of = unwrap_or (scalar_at t of) scalar.Pointer
 abbrev pub size_at : Tables → ℕ → Option ℕ
 size_at t of = slice_index_or t.sizes of None
 
--- `zeroinitializer`
-abbrev pub zero_of : Scalar → Option Fixed
-zero_of (scalar.Int width) = if nat_le 1 width && nat_le width 64 then Some (fixed.Int (record { width = width; bits = 0 })) else None
-zero_of scalar.Pointer = Some fixed.Null
+-- the type of a register
+abbrev pub type_of : Scalar → TypeV
+type_of (scalar.Int width) = IntV width
+type_of scalar.Pointer = PtrV
 
 -- a constant at a type
 abbrev pub fixed_of : Scalar → Constant → Option Fixed
 fixed_of of (constant.Is value) = Some value
-fixed_of of constant.Zero = zero_of of
+fixed_of of constant.Zero = zero_of (type_of of)
 
 -- the constant of a number at a type
 abbrev pub fixed_at : Tables → Scalar → ℕ → Option Fixed

@@ -2,7 +2,8 @@
 ghost use Rattle.std.specs.Prelude.{◌≡◌, slice_index_or, slice_get};
 ghost use Rattle.ir_code.specs.declared.lookups.Linkage.TheVariants as linkage;
 ghost use Rattle.ir_code.specs.Places.{place_of};
-ghost use Rattle.ir_code.specs.Tables.{scalar_at, scalar_or_pointer, size_at, zero_of, fixed_of, fixed_at, external_of};
+ghost use Rattle.ir_code.specs.Fixed.{zero_of};
+ghost use Rattle.ir_code.specs.Tables.{scalar_at, scalar_or_pointer, size_at, type_of, fixed_of, fixed_at, external_of};
 
 use crate::op::{Fixed, Scalar};
 use crate::places::Places;
@@ -42,7 +43,7 @@ pub(crate) fn external_of(linkage: Linkage) -> Option<External>
 
 /// `zeroinitializer`
 fn zero_of(of: Scalar) -> Option<Fixed>
-    ensures { result ≡ zero_of of }
+    ensures { result ≡ zero_of (type_of of) }
 {
     match of {
         Scalar::Int(width) => {
