@@ -13,3 +13,5 @@ pub mod Among
 pub mod Eaten
 pub mod TrailingLaws
 pub mod TailTurns
+pub mod Marks
+pub mod TypeLaws
