@@ -15,3 +15,5 @@ pub mod TrailingLaws
 pub mod TailTurns
 pub mod Marks
 pub mod TypeLaws
+pub mod Agreeing
+pub mod TypeFuel

@@ -26,10 +26,10 @@ use Rattle.ir_text.proofs.Choices.{in_turn, respell, led_more, one_each, token_l
 use Rattle.ir_text.proofs.ListLaws.{list_laws, closed_laws}
 use Rattle.ir_text.proofs.Marks.{apart, marked, is_marked, mark_opens_not}
 
-abbrev a_header : Spelling ℕ
+abbrev pub a_header : Spelling ℕ
 a_header = InTurn (one_token count) (λ many. InTurn (one_token (word (codes "x"))) (λ _. nothing many))
 
-header_laws : (n : ℕ) → Lawful n anything header_at a_header
+pub header_laws : (n : ℕ) → Lawful n anything header_at a_header
 header_laws n = in_turn n anything (token_by count) (λ many ts. word_at (codes "x") ts >>= λ times. Ok (many, times.1)) _ (λ many. InTurn (one_token (word (codes "x"))) (λ _. nothing many)) (token_laws n count)
     (λ many. in_turn n anything (word_at (codes "x")) (λ _ ts. Ok (many, ts)) _ (λ _. nothing many) (token_laws n (word (codes "x"))) (λ _. nothing_laws n anything many))
 
