@@ -17,3 +17,4 @@ pub mod Marks
 pub mod TypeLaws
 pub mod Agreeing
 pub mod TypeFuel
+pub mod Looking

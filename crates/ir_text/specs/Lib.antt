@@ -8,6 +8,7 @@ pub mod Stopping
 pub mod Tails
 pub mod Trailing
 pub mod Types
+pub mod Named
 pub mod TypeSpelled
 pub mod Spelled
 pub mod Lawful
