@@ -39,7 +39,7 @@ module _ {A : Type 0} (k : ℕ) (r q : Reader A) (same : Agree k r q) (less : Sh
   comma_agree : Agree k (after_comma r) (after_comma q)
   comma_agree ts few = bind_agree (mark_at 44 ts) (mark_at 44 ts) _ _ refl (λ x e. let fewer = mark_keeps 44 ts x e in same x.1 (omega arith))
 
-  comma_less : Shortens (after_comma r)
+  pub comma_less : Shortens (after_comma r)
   comma_less ts x e = bind_keeps (length ts) (mark_at 44 ts) (λ c. r c.1) x (mark_keeps 44 ts) (λ a few h. let fewer = less a.1 x h in omega arith) e
 
   many_agree : (n : ℕ) → Agree k (repeated_to (is_mark 44) (λ _. after_comma r) stays n tt) (repeated_to (is_mark 44) (λ _. after_comma q) stays n tt)

@@ -18,3 +18,4 @@ pub mod TypeLaws
 pub mod Agreeing
 pub mod TypeFuel
 pub mod Looking
+pub mod NestedSteps

@@ -9,6 +9,7 @@ pub mod Tails
 pub mod Trailing
 pub mod Types
 pub mod Named
+pub mod Nested
 pub mod TypeSpelled
 pub mod Spelled
 pub mod Lawful

@@ -6,6 +6,7 @@ pub mod fault;
 pub mod leaves;
 pub mod named;
 pub mod names;
+pub mod nested;
 pub mod passed;
 pub mod tails;
 pub mod types;
