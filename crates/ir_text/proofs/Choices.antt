@@ -123,7 +123,7 @@ module _ {A : Type 0} (n : ℕ) (follow : Follow) (r : Reader A) (f : TokenV →
 -- ---- one token
 
 module _ {A : Type 0} (n : ℕ) (means : Meaning A) where
-  one_each : (t : TokenV) (m : Result A Cause) → means t ≡ m → Lawful n anything (meant m t) (λ a ws. (m ≡ Ok a) × (ws ≡ [])) ⊎ Refuses (meant m t) (λ a ws. (m ≡ Ok a) × (ws ≡ [])) t
+  pub one_each : (t : TokenV) (m : Result A Cause) → means t ≡ m → Lawful n anything (meant m t) (λ a ws. (m ≡ Ok a) × (ws ≡ [])) ⊎ Refuses (meant m t) (λ a ws. (m ≡ Ok a) × (ws ≡ [])) t
   one_each t (Ok a) is = inl (respell n anything (λ ts. Ok (a, ts)) (nothing a) _ (λ b ws s. (ap (λ (x : A). Ok x) s.0, s.1)) (λ b ws s. (let e = s.0 in cc, s.1)) (nothing_laws n anything a))
   one_each t (Err cause) is = inr (record { cause = blamed t cause; refused = λ rest. refl; unspelled = λ a ws s. let e = s.0 in cc })
 

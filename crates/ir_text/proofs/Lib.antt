@@ -13,3 +13,9 @@ pub mod Among
 pub mod Eaten
 pub mod TrailingLaws
 pub mod TailTurns
+pub mod Marks
+pub mod TypeLaws
+pub mod Agreeing
+pub mod TypeFuel
+pub mod Looking
+pub mod NestedSteps

@@ -1,6 +1,7 @@
 -- Items separated by commas keep the laws.
 use Rattle.std.proofs.Common.{◌≡◌, ℕ, Bool, true, false, List, [], ◌∷◌, ◌++◌, Ok, Err, refl, sym, ap, subst, ◌∙◌, append_assoc, ◌⊎◌, inl, inr}
 use Rattle.std.specs.Prelude.{not}
+use Rattle.std.proofs.lemmas.List.{append-nil}
 use Rattle.ir_lex.specs.declared.token.Cause.TheVariants as causes
 use Rattle.ir_text.specs.Tokens.{TokenV, is_mark}
 use Rattle.ir_text.specs.Reading.{Outcome, Reader, ◌>>=◌, next_is}
@@ -8,10 +9,10 @@ use Rattle.ir_text.specs.Spelled.{Spelling, InTurn, one_token, nothing}
 use Rattle.ir_text.specs.Lawful.{Follow, Behind, anything, Lawful}
 use Rattle.ir_text.specs.Choice.{choose, Opens}
 use Rattle.ir_text.specs.Leaves.{mark, mark_at}
-use Rattle.ir_text.specs.Repeated.{repeated, each, each_under, stays}
-use Rattle.ir_text.specs.Lists.{after_comma, listed_at, mark_for, filled_at, list_at, with_comma, a_listed, a_mark_for, a_filled, a_list}
+use Rattle.ir_text.specs.Repeated.{Both, repeated, each, each_under, stays}
+use Rattle.ir_text.specs.Lists.{after_comma, listed_at, mark_for, filled_at, list_at, with_comma, a_listed, a_mark_for, a_filled, a_list, behind_item, closed_list}
 use Rattle.ir_text.proofs.Laws.{nothing_laws, in_turn_before}
-use Rattle.ir_text.proofs.Choices.{in_turn, weaken, token_laws}
+use Rattle.ir_text.proofs.Choices.{in_turn, weaken, respell, token_laws}
 use Rattle.ir_text.proofs.ChoiceLaws.{choice, token_opens, opens_more}
 use Rattle.ir_text.proofs.RepeatedLaws.{repeated_laws}
 use Rattle.ir_text.proofs.TailLaws.{comma_opens}
@@ -73,3 +74,93 @@ module _ {A : Type 0} (n : ℕ) (item : Reader A) (s : Spelling A) (between : Fo
       pub list_laws : Lawful n anything (list_at close item) (a_list close s)
       unfolding list_at
       list_laws = choice n (is_mark close) anything anything anything (mark_for close []) (filled_at close item) (a_mark_for close []) (a_filled close s) (mark_for_laws []) filled_laws (close_opens []) not_closed (λ rest b. b) (λ rest b. b)
+
+-- ---- by the list's items
+
+module _ {A : Type 0} (close : ℕ) (s : Spelling A) where
+  flat : {B : Type 0} (b c : B) (ws : List TokenV) → a_mark_for close b c ws → (b ≡ c) × one_token (mark close) tt ws
+  flat b c ws t =
+      let whole : ws ≡ t.front = t.parts ∙ ap (λ (u : List TokenV). t.front ++ u) t.rest_spells.1 ∙ append-nil t.front in
+      (t.rest_spells.0, subst (λ (u : List TokenV). one_token (mark close) tt u) (sym whole) (one_unit t.value t.front t.first_spells))
+    where
+      one_unit : (u : Unit {0}) (us : List TokenV) → one_token (mark close) u us → one_token (mark close) tt us
+      one_unit u us h = h
+
+  marked : {B : Type 0} (b : B) (ws : List TokenV) → one_token (mark close) tt ws → a_mark_for close b b ws
+  marked b ws t = record { value = tt; front = ws; rest = []; parts = sym (append-nil ws); first_spells = t; rest_spells = (refl, refl) }
+
+  behind_to : (others : List A) (ws end : List TokenV) → each (with_comma s) others ws → one_token (mark close) tt end → behind_item close s others (ws ++ end)
+  behind_to [] ws end t m = rw t m
+  behind_to (a ∷ others) ws end t m =
+      let c = t.first_spells in
+      record {
+        front = c.front;
+        rest = c.rest ++ (t.rest ++ end);
+        parts = ap (λ (u : List TokenV). u ++ end) (t.parts ∙ ap (λ (u : List TokenV). u ++ t.rest) c.parts) ∙ append_assoc (c.front ++ c.rest) t.rest end ∙ append_assoc c.front c.rest (t.rest ++ end);
+        first_spells = one_unit c.value c.front c.first_spells;
+        rest_spells = record { front = c.rest; rest = t.rest ++ end; parts = refl; first_spells = c.rest_spells; rest_spells = behind_to others t.rest end t.rest_spells m };
+      }
+    where
+      one_unit : (u : Unit {0}) (us : List TokenV) → one_token (mark 44) u us → one_token (mark 44) tt us
+      one_unit u us h = h
+
+  -- the items behind the first, and the mark
+  record Split (others : List A) (ws : List TokenV) : Type 0 where
+    front : List TokenV
+    end : List TokenV
+    parts : ws ≡ front ++ end
+    items : each (with_comma s) others front
+    closes : one_token (mark close) tt end
+
+  behind_from : (others : List A) (ws : List TokenV) → behind_item close s others ws → Split others ws
+  behind_from [] ws t = record { front = []; end = ws; parts = refl; items = refl; closes = t }
+  behind_from (a ∷ others) ws t =
+      let i = t.rest_spells in
+      let more = behind_from others i.rest i.rest_spells in
+      record {
+        front = (t.front ++ i.front) ++ more.front;
+        end = more.end;
+        parts = t.parts ∙ ap (λ (u : List TokenV). t.front ++ u) (i.parts ∙ ap (λ (u : List TokenV). i.front ++ u) more.parts) ∙ sym (append_assoc t.front i.front (more.front ++ more.end)) ∙ sym (append_assoc (t.front ++ i.front) more.front more.end);
+        items = record { front = t.front ++ i.front; rest = more.front; parts = refl; first_spells = record { value = tt; front = t.front; rest = i.front; parts = refl; first_spells = t.first_spells; rest_spells = i.first_spells }; rest_spells = more.items };
+        closes = more.closes;
+      }
+
+  closed_to : (all : List A) (ws : List TokenV) → a_list close s all ws → closed_list close s all ws
+  closed_to [] ws (inl t) =
+      let c = flat t.value [] t.rest t.rest_spells in
+      let none : t.value ≡ [] = c.0 in
+      let first : t.first_spells.value ∷ t.first_spells.rest_spells.value ≡ t.value = t.first_spells.rest_spells.rest_spells.0 in
+      absurd cc
+  closed_to [] ws (inr t) = (flat [] [] ws t).1
+  closed_to (a ∷ all) ws (inl t) =
+      let c = flat t.value (a ∷ all) t.rest t.rest_spells in
+      let l = t.first_spells in
+      let o = l.rest_spells in
+      let is : l.value ∷ o.value ≡ a ∷ all = o.rest_spells.0 ∙ c.0 in
+      let first : l.value ≡ a = cc in
+      let others : o.value ≡ all = cc in
+      let whole : l.rest ≡ o.front = o.parts ∙ ap (λ (u : List TokenV). o.front ++ u) o.rest_spells.1 ∙ append-nil o.front in
+      record {
+        front = l.front;
+        rest = o.front ++ t.rest;
+        parts = t.parts ∙ ap (λ (u : List TokenV). u ++ t.rest) (l.parts ∙ ap (λ (u : List TokenV). l.front ++ u) whole) ∙ append_assoc l.front o.front t.rest;
+        first_spells = subst (λ (x : A). s x l.front) first l.first_spells;
+        rest_spells = behind_to all o.front t.rest (subst (λ (xs : List A). each (with_comma s) xs o.front) others o.first_spells) c.1;
+      }
+  closed_to (a ∷ all) ws (inr t) = let c = flat [] (a ∷ all) ws t in let none : [] ≡ a ∷ all = c.0 in absurd cc
+
+  closed_from : (all : List A) (ws : List TokenV) → closed_list close s all ws → a_list close s all ws
+  closed_from [] ws t = inr (marked [] ws t)
+  closed_from (a ∷ all) ws t =
+      let m = behind_from all t.rest t.rest_spells in
+      inl (record {
+        value = a ∷ all;
+        front = t.front ++ m.front;
+        rest = m.end;
+        parts = t.parts ∙ ap (λ (u : List TokenV). t.front ++ u) m.parts ∙ sym (append_assoc t.front m.front m.end);
+        first_spells = record { value = a; front = t.front; rest = m.front; parts = refl; first_spells = t.first_spells; rest_spells = record { value = all; front = m.front; rest = []; parts = sym (append-nil m.front); first_spells = m.items; rest_spells = (refl, refl) } };
+        rest_spells = marked (a ∷ all) m.end m.closes;
+      })
+
+  pub closed_laws : (n : ℕ) (item : Reader A) → Lawful n anything (list_at close item) (a_list close s) → Lawful n anything (list_at close item) (closed_list close s)
+  closed_laws n item laws = respell n anything (list_at close item) (a_list close s) (closed_list close s) closed_to closed_from laws

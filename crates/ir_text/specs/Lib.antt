@@ -7,6 +7,10 @@ pub mod Passed
 pub mod Stopping
 pub mod Tails
 pub mod Trailing
+pub mod Types
+pub mod Named
+pub mod Nested
+pub mod TypeSpelled
 pub mod Spelled
 pub mod Lawful
 pub mod Leaves

@@ -6,7 +6,7 @@ use Rattle.ir_text.specs.Reading.{Outcome, Reader, ◌>>=◌}
 use Rattle.ir_text.specs.Spelled.{Spelling, InTurn, one_token, nothing}
 use Rattle.ir_text.specs.Choice.{choose}
 use Rattle.ir_text.specs.Leaves.{mark, mark_at}
-use Rattle.ir_text.specs.Repeated.{repeated, each}
+use Rattle.ir_text.specs.Repeated.{Both, repeated, each}
 
 -- an item behind a comma
 abbrev pub after_comma : {A : Type 0} → Reader A → Reader A
@@ -47,3 +47,14 @@ a_filled close item = InTurn (a_listed item) (λ all. a_mark_for close all)
 
 abbrev pub a_list : {A : Type 0} → ℕ → Spelling A → Spelling (List A)
 a_list close item all ws = a_filled close item all ws ⊎ a_mark_for close [] all ws
+
+-- ---- the same, by the list's items
+
+abbrev pub behind_item : {A : Type 0} → ℕ → Spelling A → Spelling (List A)
+behind_item close item [] ws = one_token (mark close) tt ws
+behind_item close item (a ∷ all) ws = Both (one_token (mark 44) tt) (Both (item a) (behind_item close item all)) ws
+
+-- nothing or items with commas between them, and the closing mark
+abbrev pub closed_list : {A : Type 0} → ℕ → Spelling A → Spelling (List A)
+closed_list close item [] ws = one_token (mark close) tt ws
+closed_list close item (a ∷ all) ws = Both (item a) (behind_item close item all) ws

@@ -4,6 +4,9 @@
 pub mod cursor;
 pub mod fault;
 pub mod leaves;
+pub mod named;
 pub mod names;
+pub mod nested;
 pub mod passed;
 pub mod tails;
+pub mod types;

@@ -130,7 +130,7 @@ pub fn after_string(cursor: &mut Cursor<'_>) -> Result<(), ReadEnd>
 
 /// Whether the digits are those of an integer type's width.
 #[tactic(auto, unfolding(crate::specs::Passed::is_int_word))]
-fn is_int_word(text: &[u8]) -> bool
+pub fn is_int_word(text: &[u8]) -> bool
     ensures { result ≡ spec.is_int_word text.now }
 {
     match text {
