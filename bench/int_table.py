@@ -199,6 +199,19 @@ def rows_of_cast(operation, flag_sets, shrinks):
             for cause in sorted(by_cause):
                 a = chance.choice(by_cause[cause])
                 rows.append((old, flags, a, new) + operation(old, flags, a, new))
+    if shrinks:
+        rows += [row for row in rows_at_the_edges(operation) if row not in rows]
+    return rows
+
+
+def rows_at_the_edges(operation):
+    """The last numbers that fit a smaller width and the first that do not, for each promise."""
+    rows = []
+    for old, new in [(8, 7), (64, 32)]:
+        half = 1 << (new - 1)
+        last_and_first = [(NUW, 2 * half - 1), (NUW, 2 * half), (NSW, half - 1), (NSW, half), (NSW, -half), (NSW, -half - 1)]
+        for flags, a in last_and_first:
+            rows.append((old, flags, a & ones(old), new) + operation(old, flags, a & ones(old), new))
     return rows
 
 

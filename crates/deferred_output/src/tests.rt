@@ -7,6 +7,13 @@ use pv_base::want::Memory;
 use std::alloc::Global;
 use std::test::Fail;
 
+fn crosses_threads<T: Send + Sync>() {}
+
+#[test]
+fn outputs_cross_threads() {
+    crosses_threads::<List<TurnOutput>>();
+}
+
 fn parts_of(alloc: Global, turns: &[(u64, &[u8])]) -> Result<List<TurnOutput>, Memory> {
     let mut parts = List::new(alloc);
     for part in turns {

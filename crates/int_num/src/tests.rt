@@ -7,11 +7,19 @@ use crate::binary::binary;
 use crate::cast::cast;
 use crate::compare::compare;
 use crate::int::Int;
-use crate::ops::{BinOp, CastOp, Flags, Poison, Pred, RedOp};
+use crate::ops::{BinOp, CastOp, Flags, Poison, Pred, RedKind, RedOp};
 use crate::reduce::{identity, reduce};
 use crate::sign::{low, signed};
 use crate::{other_table, table};
 use std::process::Abort;
+
+fn crosses_threads<T: Send + Sync>() {}
+
+#[test]
+fn integers_cross_threads() {
+    crosses_threads::<Int>();
+    crosses_threads::<RedKind>();
+}
 
 fn flags_of(code: u64) -> Flags {
     Flags {

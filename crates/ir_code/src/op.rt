@@ -1,6 +1,6 @@
 //! Instructions with their names resolved: registers, edges and functions by number, and of types what the machine needs of
 //! them. There is one for each instruction of a block, in the same order.
-use indexmap::IndexMap;
+use crate::cases::Cases;
 use int_num::int::Int;
 use int_num::ops::{BinOp, CastOp, Flags, Pred};
 use pv_base::external::External;
@@ -134,7 +134,7 @@ pub enum Op {
     Switch {
         value: Operand,
         default: u32,
-        cases: IndexMap<u64, u32>,
+        cases: Cases,
     },
     Unreachable,
     /// An instruction that breaks a rule of modules, in no checked one.

@@ -78,7 +78,7 @@ shape_take (form.Token kind.Punct) b xs class some =
     let says = class_says (form.Token kind.Punct) b class in
     let r = punct_take b xs (λ off. eqb-true b 46 (or_right (is_mark b) (b == 46) says off)) some in record { is = r.0; fits = r.1 }
 
-shape_most : (f : Form) (t after : List ℕ) → IsForm f t → length t ≤ form_len f (t ++ after)
+pub shape_most : (f : Form) (t after : List ℕ) → IsForm f t → length t ≤ form_len f (t ++ after)
 unfolding form_len
 shape_most form.Gap t after is = gap_most t after is
 shape_most (form.Token kind.GlobalName) t after is = signed_most 64 t after is
@@ -110,9 +110,9 @@ shape_some (form.Token kind.Text) t is = quoted_some t is
 shape_some (form.Token kind.Punct) t is = punct_some t is
 
 -- a piece that is no label: its first byte tells its form, and a label that begins with it is longer
-record Other (f : Form) (text : List ℕ) (n : ℕ) : Type 0 where
-  class : form_of (get_or text 0 0) ≡ Some f
-  under : (name_len text ≡ 0 → ⊥) → n ≤ name_len text
+pub record Other (f : Form) (text : List ℕ) (n : ℕ) : Type 0 where
+  pub class : form_of (get_or text 0 0) ≡ Some f
+  pub under : (name_len text ≡ 0 → ⊥) → n ≤ name_len text
 
 no_name : (b : ℕ) (xs : List ℕ) → is_name_start b ≡ false → is_digit b ≡ false → (b == 34) ≡ false → name_len (b ∷ xs) ≡ 0
 unfolding name_len quoted_len
@@ -162,7 +162,7 @@ other_punct : (t after : List ℕ) → IsPunct t → Other (form.Token kind.Punc
 other_punct t after (Mark b is mark) = rw is (record { class = mark_form b mark; under = λ some. omega arith })
 other_punct t after (Points is) = rw is (record { class = other_forms.5; under = λ some. rw (plain_len (46 ∷ 46 ∷ 46 ∷ after) minus_starts.1) (each_most is_name_byte (46 ∷ 46 ∷ 46 ∷ []) after (minus_starts.2, (minus_starts.2, (minus_starts.2, tt)))) })
 
-kinds : (f : Form) (t after : List ℕ) → IsForm f t → (f ≡ form.Token kind.Label) ⊎ Other f (t ++ after) (length t)
+pub kinds : (f : Form) (t after : List ℕ) → IsForm f t → (f ≡ form.Token kind.Label) ⊎ Other f (t ++ after) (length t)
 kinds form.Gap t after is = inr (other_gap t after is)
 kinds (form.Token kind.GlobalName) t after is = inr (other_global t after is)
 kinds (form.Token kind.LocalName) t after is = inr (other_local t after is)
@@ -174,7 +174,7 @@ kinds (form.Token kind.Punct) t after is = inr (other_punct t after is)
 
 -- both ways between the longest piece and the piece that is found
 
-shape_at : (f : Form) (text : List ℕ) → 0 < length text → form_of (get_or text 0 0) ≡ Some f → (form_len f text ≡ 0 → ⊥) → Shape f text (form_len f text)
+pub shape_at : (f : Form) (text : List ℕ) → 0 < length text → form_of (get_or text 0 0) ≡ Some f → (form_len f text ≡ 0 → ⊥) → Shape f text (form_len f text)
 shape_at f [] pos class some = absurd (omega arith)
 shape_at f (b ∷ xs) pos class some = shape_take f b xs class some
 
@@ -182,7 +182,7 @@ label_has_name : (text : List ℕ) → (label_len text ≡ 0 → ⊥) → name_l
 unfolding label_len
 label_has_name text some none = some (rw none refl)
 
-label_form_len : (text : List ℕ) → form_len (form.Token kind.Label) text ≡ label_len text
+pub label_form_len : (text : List ℕ) → form_len (form.Token kind.Label) text ≡ label_len text
 unfolding form_len
 label_form_len text = refl
 
@@ -191,7 +191,7 @@ found_by o f text n o_is len pos limits =
     let some : (n == 0) ≡ false = ne_eqb n 0 (λ z. omega arith) in
     rw (o_is, len, some, limits) refl
 
-abbrev tried : Bool → List ℕ → Option Form
+abbrev pub tried : Bool → List ℕ → Option Form
 tried none text = cond none (form_of (get_or text 0 0)) (Some (form.Token kind.Label))
 
 longest_tried : (p : Part) (rest : List ℕ) → IsLongest p rest → (t : Bool) → (label_len (p.bytes ++ rest) == 0) ≡ t → (tried t (p.bytes ++ rest) ≡ Some p.form) × (form_len p.form (p.bytes ++ rest) ≡ length p.bytes)
@@ -242,7 +242,7 @@ label_is f is = cc
 same_form : (x : Option Form) (f g : Form) → x ≡ Some f → x ≡ Some g → g ≡ f
 same_form x f g a b = cc
 
-most_of : (text : List ℕ) (f : Form) (n : ℕ) → label_len text ≡ 0 → form_of (get_or text 0 0) ≡ Some f → form_len f text ≡ n → length (take n text) ≡ n
+pub most_of : (text : List ℕ) (f : Form) (n : ℕ) → label_len text ≡ 0 → form_of (get_or text 0 0) ≡ Some f → form_len f text ≡ n → length (take n text) ≡ n
     → (g : Form) (t after : List ℕ) → IsForm g t → t ++ after ≡ text → length t ≤ length (take n text)
 most_of text f n none class len size g t after g_is whole =
     let pos = shape_some g t g_is in
@@ -256,7 +256,7 @@ most_of text f n none class len size g t after g_is whole =
           omega arith)
     ]
 
-label_most : (text : List ℕ) (n : ℕ) → (label_len text ≡ 0 → ⊥) → label_len text ≡ n → label_len text ≡ name_len text + 1 → length (take n text) ≡ n
+pub label_most : (text : List ℕ) (n : ℕ) → (label_len text ≡ 0 → ⊥) → label_len text ≡ n → label_len text ≡ name_len text + 1 → length (take n text) ≡ n
     → (g : Form) (t after : List ℕ) → IsForm g t → t ++ after ≡ text → length t ≤ length (take n text)
 label_most text n some len named size g t after g_is whole =
     elim (kinds g t after g_is) [

@@ -6,3 +6,6 @@ pub mod Shapes
 pub mod Newlines
 pub mod Cuts
 pub mod Wholes
+pub mod Begun
+pub mod Insides
+pub mod Causes

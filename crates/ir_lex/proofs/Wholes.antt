@@ -15,7 +15,9 @@ use Rattle.ir_lex.specs.Lexing.{piece_of, with_token, line_after, lexed_from, le
 use Rattle.ir_lex.specs.Cut.{IsGap, IsForm, Part, joined, AreLongest, IsStuck, newlines, token_at, tokens_at, Cut, AreGaps, NoGap, OneMore, Stands, InOrder}
 use Rattle.ir_lex.proofs.Steps.{gap_front, token_front, bad_front}
 use Rattle.ir_lex.proofs.Newlines.{newlines_join, gap_line, token_line}
+use Rattle.ir_lex.specs.Faults.{IsCause, FaultsAreNamed}
 use Rattle.ir_lex.proofs.Cuts.{shape_some, longest_found, found_longest}
+use Rattle.ir_lex.proofs.Causes.{bad_cause}
 
 -- the pieces of a text
 
@@ -26,10 +28,11 @@ pub record CutFrom (text : List ℕ) (at line : ℕ) : Type 0 where
   pub longest : AreLongest parts rest
   pub among : tokens_at at line parts ≡ (lexed_from text 0 at line).tokens
   pub over : MatchOption (lexed_from text 0 at line).fault (rest ≡ []) (λ e. (e.line ≡ line + newlines (joined parts [])) × IsStuck rest)
+  pub named : MatchOption (lexed_from text 0 at line).fault (Unit {0}) (λ e. IsCause e.cause rest)
 
 cut_end : (at line : ℕ) → CutFrom [] at line
 unfolding lexed_from
-cut_end at line = record { parts = []; rest = []; whole = refl; longest = tt; among = refl; over = refl }
+cut_end at line = record { parts = []; rest = []; whole = refl; longest = tt; among = refl; over = refl; named = tt }
 
 cut_part : (f : Form) (b : ℕ) (xs : List ℕ) (n at line : ℕ) → piece_of (b ∷ xs) ≡ piece.Found f (suc n)
     → (lexed_from (b ∷ xs) 0 at line).tokens ≡ token_at f at (at + suc n) line (lexed_from (drop (suc n) (b ∷ xs)) 0 (at + suc n) (line + newlines (take (suc n) (b ∷ xs)))).tokens
@@ -48,6 +51,7 @@ cut_part f b xs n at line is tokens fault go =
       longest = (rw go.whole found.longest, go.longest);
       among = ap (λ (k : ℕ). token_at f at (at + k) line (tokens_at (at + k) (line + newlines (take (suc n) text)) go.parts)) size ∙ ap (token_at f at (at + suc n) line) go.among ∙ sym tokens;
       over = subst (λ (x : Option ReadError). MatchOption x (go.rest ≡ []) (λ e. (e.line ≡ line + newlines (take (suc n) text ++ joined go.parts [])) × IsStuck go.rest)) (sym fault) (rw lines go.over);
+      named = subst (λ (x : Option ReadError). MatchOption x (Unit {0}) (λ e. IsCause e.cause go.rest)) (sym fault) go.named;
     }
 
 bad_found : {p : Piece} {why : Cause} {f : Form} {n : ℕ} → p ≡ piece.Bad why → p ≡ piece.Found f n → ⊥
@@ -67,6 +71,7 @@ cut_piece fuel b xs at line le go (piece.Bad why) is =
       longest = tt;
       among = sym (ap (λ (x : Lexed). x.tokens) e);
       over = subst (λ (x : Option ReadError). MatchOption x (b ∷ xs ≡ []) (λ e. (e.line ≡ line + newlines []) × IsStuck (b ∷ xs))) (sym (ap (λ (x : Lexed). x.fault) e)) (lines, stuck b xs why is);
+      named = subst (λ (x : Option ReadError). MatchOption x (Unit {0}) (λ e. IsCause e.cause (b ∷ xs))) (sym (ap (λ (x : Lexed). x.fault) e)) (bad_cause b xs why is);
     }
 cut_piece fuel b xs at line le go (piece.Found f zero) is = absurd (let h = (found_longest (b ∷ xs) f zero (omega arith) is).some in omega arith)
 cut_piece fuel b xs at line le go (piece.Found form.Gap (suc n)) is =
@@ -93,6 +98,13 @@ unfolding lexed
 cut_whole text =
     let g = cut_from (length text) text 0 1 (omega arith) in
     (g.rest, record { parts = g.parts; whole = g.whole; longest = g.longest; among = g.among }, g.over)
+
+-- what the cause of the fault says of the rest
+pub faults_named : FaultsAreNamed
+unfolding lexed
+faults_named text e is =
+    let g = cut_from (length text) text 0 1 (omega arith) in
+    (g.rest, record { parts = g.parts; whole = g.whole; longest = g.longest; among = g.among }, subst (λ (x : Option ReadError). MatchOption x (Unit {0}) (λ e. IsCause e.cause g.rest)) is g.named)
 
 -- a text of longest pieces
 

@@ -3,3 +3,4 @@ pub mod Forms
 pub mod Spelling
 pub mod Lexing
 pub mod Cut
+pub mod Faults

@@ -258,3 +258,23 @@ reads_back m n (Obj name offset) word e =
     let here = (reached_inside name offset (length word) (find name m.objects) at.0 fell).0 in
     let some = reached_some name offset (length word) (find name m.objects) at.0 fell in
     subst (λ x. read x (Obj name offset) (length word) ≡ Ok word) at.2 (laid_reads m name offset word at.0 some.0 fell (ap (λ k. find k m.objects) here ∙ some.1) here)
+
+copied_writes : (m n : Picture) (to from : Pointer) (len : ℕ) (overlap : Bool) (source target : Result Place Trap) → access m from len ≡ source → write_access m to len ≡ target → copied m len overlap source target ≡ Ok n
+    → (word : List Byte) × (read m from len ≡ Ok word) × (length word ≡ len) × (write m to word ≡ Ok n)
+copied_writes m n to from len overlap (Err t) target s d e = absurd (cc)
+copied_writes m n to from len overlap (Ok p) (Err t) s d e = absurd (cc)
+copied_writes m n to from len overlap (Ok p) (Ok q) s d e =
+    let same = if_ok (overlap || apart p q len) (lay m q (bytes_from m p len)) n _ e in
+    let all : length (bytes_from m p len) ≡ len = grind (arith, common_steps, access_inside m from len p s) in
+    (bytes_from m p len, ap (read_at m len) s, all, rw all (ap (laid m (bytes_from m p len)) d ∙ ap Ok same.1))
+
+not_empty : (len : ℕ) (b : Bool) → 0 < len → (len == 0) ≡ b → b ≡ false
+not_empty len b h e = grind (arith, nat_tests)
+
+pub copies_are_writes : (m n : Picture) (to from : Pointer) (len : ℕ) (overlap : Bool) → 0 < len → copy m to from len overlap ≡ Ok n → (word : List Byte) × (read m from len ≡ Ok word) × (length word ≡ len) × (write m to word ≡ Ok n)
+copies_are_writes m n to from len overlap h e = copied_writes m n to from len overlap (access m from len) (write_access m to len) refl refl (rw (not_empty len (len == 0) h refl) at e)
+
+pub fills_are_writes : (m n : Picture) (to : Pointer) (value len : ℕ) → 0 < len → fill m to value len ≡ Ok n → write m to (replicate len (Num value)) ≡ Ok n
+fills_are_writes m n to value len h e =
+    let f : laid m (replicate len (Num value)) (write_access m to len) ≡ Ok n = rw (not_empty len (len == 0) h refl) at e in
+    rw (length-replicate len (Num value)) f

@@ -1,13 +1,14 @@
 -- What the calls of a memory mean together.
-use Rattle.std.specs.Prelude.{ℕ, ◌+◌, ◌<◌, ◌≡◌, ◌≢◌, pos, ℤ, List, length, Ok, None, Bool}
+use Rattle.std.specs.Prelude.{ℕ, ◌+◌, ◌<◌, ◌≡◌, ◌≢◌, pos, ℤ, List, length, replicate, Ok, None, Bool}
 use Rattle.std.specs.List.{All}
 use Rattle.pv_base.specs.declared.place.Site.{Site}
 use Rattle.mem_image.specs.declared.object.Pointer.{Pointer}
 use Rattle.mem_image.specs.declared.object.Pointer.TheVariants.{Null, Obj}
 use Rattle.mem_image.specs.declared.object.Byte.{Byte}
+use Rattle.mem_image.specs.declared.object.Byte.TheVariants.{Num}
 use Rattle.mem_image.specs.declared.object.Kind.{Kind}
 use Rattle.mem_image.specs.declared.object.Kind.TheVariants.{Heap}
-use Rattle.mem_image.specs.Picture.{Picture, PartFits, IsPicture, find, read, write, release, live, live_limit}
+use Rattle.mem_image.specs.Picture.{Picture, PartFits, IsPicture, find, read, write, copy, fill, release, live, live_limit}
 use Rattle.mem_image.specs.Calls.{Call, Reply, does, ReadWord, WriteWord, CopyRange, Fill, Make, Release, EndFrame, Bytes, Made}
 
 -- the words that a call brings have parts of pointers
@@ -35,6 +36,14 @@ WritesReadBack = (m n : Picture) (to : Pointer) (word : List Byte) → write m t
 -- a write leaves the objects of all other names
 abbrev pub WritesLeaveOthers : Type 0
 WritesLeaveOthers = (m n : Picture) (name other : ℕ) (offset : ℤ) (word : List Byte) → write m (Obj name offset) word ≡ Ok n → other ≢ name → find other n.objects ≡ find other m.objects
+
+-- a copy writes what a read of its other side gives
+abbrev pub CopiesAreWrites : Type 0
+CopiesAreWrites = (m n : Picture) (to from : Pointer) (len : ℕ) (overlap : Bool) → 0 < len → copy m to from len overlap ≡ Ok n → (word : List Byte) × (read m from len ≡ Ok word) × (length word ≡ len) × (write m to word ≡ Ok n)
+
+-- a fill writes one number into each byte
+abbrev pub FillsAreWrites : Type 0
+FillsAreWrites = (m n : Picture) (to : Pointer) (value len : ℕ) → 0 < len → fill m to value len ≡ Ok n → write m to (replicate len (Num value)) ≡ Ok n
 
 -- a new object takes the next name, at offset 0
 abbrev pub MadeTakesNext : Type 0

@@ -1,5 +1,5 @@
 //! Laws of the calls of a memory, each the contract of a function that does nothing.
-ghost use Rattle.mem_image.specs.Laws.{CallsKeepPictures, ReadsGiveAll, WritesReadBack, WritesLeaveOthers, MadeTakesNext, NullIsPastLimit, ReleasedIsDead};
+ghost use Rattle.mem_image.specs.Laws.{CallsKeepPictures, ReadsGiveAll, WritesReadBack, WritesLeaveOthers, CopiesAreWrites, FillsAreWrites, MadeTakesNext, NullIsPastLimit, ReleasedIsDead};
 
 /// Each call keeps what holds of every memory.
 pub fn calls_keep_pictures()
@@ -19,6 +19,16 @@ pub fn writes_read_back()
 /// A write leaves the objects of all other names.
 pub fn writes_leave_others()
     ensures { WritesLeaveOthers }
+{}
+
+/// A copy writes what a read of its other side gives, even where the sides overlap.
+pub fn copies_are_writes()
+    ensures { CopiesAreWrites }
+{}
+
+/// A fill writes one number into each byte.
+pub fn fills_are_writes()
+    ensures { FillsAreWrites }
 {}
 
 /// A new object takes the next name.

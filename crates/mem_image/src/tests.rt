@@ -7,7 +7,7 @@ use crate::guarded::Guarded;
 use crate::image::Image;
 use crate::laws;
 use crate::memory::Mem;
-use crate::object::{Byte, Kind, Pointer};
+use crate::object::{Byte, Kind, Object, Pointer};
 use crate::word::Word;
 use pv_base::list::List;
 use pv_base::place::{AllocSite, Site};
@@ -19,6 +19,16 @@ const AT: Site = Site {
     function: 0,
     place: 0,
 };
+
+fn crosses_threads<T: Send + Sync>() {}
+
+#[test]
+fn memories_cross_threads() {
+    crosses_threads::<Image>();
+    crosses_threads::<List<Object>>();
+    crosses_threads::<Word>();
+    crosses_threads::<Fault>();
+}
 
 #[derive(Clone, Copy, Debug)]
 enum Ask {
@@ -283,6 +293,8 @@ fn words_of_faults(rt: HostRuntime) -> Result<(), Fail> {
     laws::reads_give_all();
     laws::writes_read_back();
     laws::writes_leave_others();
+    laws::copies_are_writes();
+    laws::fills_are_writes();
     laws::made_takes_next();
     laws::null_is_past_limit();
     laws::released_is_dead();

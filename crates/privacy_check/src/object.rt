@@ -38,14 +38,14 @@ pub fn touch_range(
 pub fn has_range(codes: &[u8], offset: u64, len: u64, beta: u8) -> bool
     ensures within { IsTrue result → offset + len ≤ length codes.now }
     ensures stamps { IsTrue result → All (λ c. c ≤ beta) (in_range offset len codes.now) }
+    ensures whole { offset + len ≤ length codes.now → All (λ c. c ≤ beta) (in_range offset len codes.now) → IsTrue result }
 {
-    match offset.checked_add(len) {
-        Some(end) if end <= codes.len() as u64 => all_at_most(
-            &codes[offset as usize..end as usize],
-            beta,
-        ),
-        _ => false,
+    let size = codes.len() as u64;
+    if offset > size || len > size - offset {
+        return false;
     }
+    let start = offset as usize;
+    all_at_most(&codes[start..start + len as usize], beta)
 }
 
 // Whether no code is above the stamp.

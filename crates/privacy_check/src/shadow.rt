@@ -47,7 +47,8 @@ impl Shadow {
     /// Whether an access may be asked for: its range lies in an object, and no code there is above the stamp. It costs
     /// the length; a caller whose stamps do not fall within a period knows it without asking.
     pub fn may_access(&self, at: Place, len: u64, beta: u8) -> bool
-        ensures { IsTrue result → MayAccess (codes_of self.now) at len beta }
+        ensures true_where { IsTrue result → MayAccess (codes_of self.now) at len beta }
+        ensures false_else { MayAccess (codes_of self.now) at len beta → IsTrue result }
     {
         match self.objects.get(&at.name) {
             Some(codes) => has_range(codes.as_slice(), at.offset, len, beta),

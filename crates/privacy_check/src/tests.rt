@@ -10,6 +10,14 @@ use std::alloc::Global;
 use std::process::Abort;
 use std::test::Fail;
 
+fn crosses_threads<T: Send + Sync>() {}
+
+#[test]
+fn shadows_cross_threads() {
+    crosses_threads::<Shadow>();
+    crosses_threads::<BadCode>();
+}
+
 // An access that may be asked for.
 fn touch(
     rt: &impl Abort,

@@ -4,6 +4,13 @@ use profile_lines::profile::{Profile, ProfileCause};
 use std::alloc::Global;
 use std::test::Fail;
 
+fn crosses_threads<T: Send + Sync>() {}
+
+#[test]
+fn profiles_cross_threads() {
+    crosses_threads::<Profile>();
+}
+
 /// What is wrong with a text, and where; none where it is a profile.
 fn fault(alloc: Global, text: &str) -> Result<Option<(u32, ProfileCause)>, Fail> {
     let bytes = text.as_bytes();
@@ -264,7 +271,7 @@ fn sizes(profile: &Profile) -> Option<[usize; 7]> {
     ])
 }
 
-const SAMPLES: [(&str, [usize; 7]); 6] = [
+const SAMPLES: [(&str, [usize; 7]); 9] = [
     (COUNTER, [3, 1, 2, 0, 0, 0, 0]),
     (
         "privateer-profile 1\nloop @main %head\nblock %head\nblock %body\nblock %fill\nblock %say\nblock %latch\nphi %i step 1\nuse @main:8/0 @scratch\nuse @main:13/0 @scratch\nuse @main:14/0 @fmt\nend\n",
@@ -281,6 +288,18 @@ const SAMPLES: [(&str, [usize; 7]); 6] = [
     (
         "privateer-profile 1\nloop @main %head\nblock %head\nblock %body\nblock %latch\nphi %i step 1\nphi %s reduce\nend\n",
         [3, 2, 0, 0, 0, 0, 0],
+    ),
+    (
+        "privateer-profile 1\nloop @main %head\nblock %head\nblock %body\nblock %write\nblock %test\nblock %read\nblock %latch\nphi %i step 1\nuse @main:6/0 @a\nuse @main:10/0 @a\nend\n",
+        [6, 1, 2, 0, 0, 0, 0],
+    ),
+    (
+        "privateer-profile 1\nloop @main %head\nblock %head\nblock %body\nblock %latch\nphi %i step 1\nend\n",
+        [3, 1, 0, 0, 0, 0, 0],
+    ),
+    (
+        "privateer-profile 1\nloop @main %head\nblock %head\nblock %body\nblock %set\nblock %get\nblock %latch\nphi %i step 1\nuse @main:6/0 @cur\nuse @main:8/0 @cur\nuse @main:9/0 @a\nend\n",
+        [5, 1, 3, 0, 0, 0, 0],
     ),
     (
         "privateer-profile 1\nloop @main %head\nblock %head\nphi %i step -9223372036854775808\nvalue @a 0 ff\nend",
@@ -323,7 +342,11 @@ const BLOCK: &str = "privateer-profile 1\nloop @main %head\nblock %";
 
 const VALUE: &str = "privateer-profile 1\nloop @main %head\nblock %head\nvalue @a 0 ";
 
-const STRETCHED: [(&str, &str, usize, &str, Option<(u32, ProfileCause)>); 9] = [
+const PHI: &str = "privateer-profile 1\nloop @main %head\nblock %head\nphi %i same\nblock %";
+
+const TWICE: &str = "privateer-profile 1\nloop @main %head\nblock %head\nphi %4 same\nphi %";
+
+const STRETCHED: [(&str, &str, usize, &str, Option<(u32, ProfileCause)>); 14] = [
     (BLOCK, "a", 4089, "\nend", None),
     (BLOCK, "a", 4090, "\nend", Some((3, ProfileCause::TooLong))),
     (BLOCK, " ", 4090, "\nend", Some((3, ProfileCause::TooLong))),
@@ -333,6 +356,24 @@ const STRETCHED: [(&str, &str, usize, &str, Option<(u32, ProfileCause)>); 9] = [
     ("#", "a", 4097, "\nprivateer-profile 1", None),
     (VALUE, "0a", 1024, "\nend", None),
     (VALUE, "0a", 1025, "\nend", Some((4, ProfileCause::Number))),
+    // Too long goes before a number out of range, a word out of order, and a repeat.
+    (VALUE, "0a", 2043, "\nend", Some((4, ProfileCause::TooLong))),
+    (PHI, "a", 4090, "\nend", Some((5, ProfileCause::TooLong))),
+    (PHI, "a", 4089, "\nend", Some((5, ProfileCause::Order))),
+    (
+        TWICE,
+        "0",
+        4091,
+        "4 same\nend",
+        Some((5, ProfileCause::TooLong)),
+    ),
+    (
+        TWICE,
+        "0",
+        4085,
+        "4 same\nend",
+        Some((5, ProfileCause::Repeat)),
+    ),
 ];
 
 #[test]

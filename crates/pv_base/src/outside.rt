@@ -1,6 +1,6 @@
 //! The outside: files that are read by name, and sinks that take bytes, each with a count of its faults.
-ghost use Rattle.std.specs.Prelude.{◌≡◌, ◌≤◌, ℕ, Option};
-ghost use Rattle.pv_base.specs.Outside.{Text, ReadEnds, PutEnds, HasRoom, Rose};
+ghost use Rattle.std.specs.Prelude.{◌≡◌, ◌≤◌, ◌+◌, ℕ, Option, min};
+ghost use Rattle.pv_base.specs.Outside.{Text, ReadEnds, PutEnds, HasRoom, Rose, last_count};
 
 use crate::bytes::Bytes;
 
@@ -55,6 +55,7 @@ pub trait Sink {
 
 /// One fault more, up to the last value of a count.
 pub fn raised(count: u64) -> u64
+    ensures value { result ≡ min (count + 1) last_count }
     ensures rose { Rose count result }
     ensures later { count ≤ result }
 {

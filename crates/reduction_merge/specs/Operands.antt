@@ -1,5 +1,5 @@
 -- A partial of a list of operands, and what its range test is for.
-use Rattle.std.specs.Prelude.{◌≡◌, ℕ, suc, ℤ, pos, negsuc, neg_ℤ, List, [], ◌∷◌, ◌++◌, length, All, sum_by, true, Some, None, Ok, if◌then◌else◌}
+use Rattle.std.specs.Prelude.{◌≡◌, ◌≤◌, ℕ, suc, ◌^◌, ℤ, pos, negsuc, neg_ℤ, List, [], ◌∷◌, ◌++◌, length, All, sum_by, true, Some, None, Ok, if◌then◌else◌}
 use Rattle.std.specs.List.Sorted.{IsPermutation}
 use Rattle.int_num.specs.Integer.{Integer, IsWidth, HasWidth, signed}
 use Rattle.int_num.specs.Operations.{add}
@@ -7,7 +7,7 @@ use Rattle.int_num.specs.Reductions.{reduce, identity}
 use Rattle.int_num.specs.declared.ops.RedOp.{RedOp}
 use Rattle.int_num.specs.declared.ops.RedOp.TheVariants.{Add}
 use Rattle.int_num.specs.declared.ops.Flags.{Flags}
-use Rattle.reduction_merge.specs.Partials.{PartialOf, SameKind, started, added, joined, finished, stays_in_range}
+use Rattle.reduction_merge.specs.Partials.{PartialOf, SameKind, SumsFit, started, added, joined, finished, stays_in_range}
 
 -- how far a number is above 0, and how far below
 abbrev pub up : ℤ → ℕ
@@ -44,6 +44,10 @@ AddLaw = (p : PartialOf) (xs : List Integer) (x : Integer) → IsPartialOf p xs 
 abbrev pub JoinLaw : Type 0
 JoinLaw = (p q : PartialOf) (xs ys : List Integer) → IsPartialOf p xs → IsPartialOf q ys → SameKind p q → IsWidth p.width → All (HasWidth p.width) xs → All (HasWidth p.width) ys
     → IsPartialOf (joined p q) (xs ++ ys)
+
+-- the sums of at most 2^60 operands stay within 2^124, so one more may be added below that count, and two joined up to it
+abbrev pub SumsLaw : Type 0
+SumsLaw = (p : PartialOf) (xs : List Integer) → IsPartialOf p xs → All (HasWidth p.width) xs → p.count ≤ 2 ^ 60 → SumsFit p
 
 -- where the range test passes, what is finished is the first value folded with all operands; else there is none
 abbrev pub FinishLaw : Type 0

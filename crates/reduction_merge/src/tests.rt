@@ -5,6 +5,13 @@ use crate::partial::Partial;
 use int_num::int::Int;
 use int_num::ops::{Flags, RedOp};
 
+fn crosses_threads<T: Send + Sync>() {}
+
+#[test]
+fn partials_cross_threads() {
+    crosses_threads::<Partial>();
+}
+
 const PLAIN: Flags = Flags {
     nsw: false,
     nuw: false,

@@ -1,0 +1,15 @@
+pub mod Laws
+pub mod Choices
+pub mod ChoiceLaws
+pub mod Later
+pub mod Persisting
+pub mod Repeating
+pub mod RepeatedLaws
+pub mod Groups
+pub mod PassedLaws
+pub mod TailLaws
+pub mod ListLaws
+pub mod Among
+pub mod Eaten
+pub mod TrailingLaws
+pub mod TailTurns

@@ -1,0 +1,9 @@
+//! The ground of reading module text: tokens in hand, single tokens, what is passed over, types, constants and operands.
+#![tactic(auto)]
+
+pub mod cursor;
+pub mod fault;
+pub mod leaves;
+pub mod names;
+pub mod passed;
+pub mod tails;
