@@ -151,6 +151,7 @@ frames_set code frames f f' h t ok same = record {
         let lt : i + 1 < length frames = slice_get_within frames (i + 1) b' there in
         let ne : i ≡ length frames - 1 → ⊥ = λ z. omega arith in
         subst (λ n. Awaits code a n) (ap (λ (x : Frame). x.function) (sym s)) (h.waits i a b' (sym (get_set_other frames (length frames - 1) i f' ne) ∙ e) there)
+
     first : (a : Frame) → ((b' : Frame) × (slice_get frames 0 ≡ Some b') × (((0 ≡ length frames - 1) × (a ≡ f') × (b' ≡ f)) ⊎ (a ≡ b'))) → code.main ≡ Some a.function
     first a (b', there, inl (s, x, y)) = let z : b'.function ≡ a.function = rw (x, y) (sym same) in h.first b' there ∙ ap Some z
     first a (b', there, inr s) = h.first b' there ∙ ap (λ (x : Frame). Some x.function) (sym s)
@@ -166,9 +167,11 @@ frames_push code frames f g h t ok awaits = record {
   where
     below : (j : ℕ) (a : Frame) → slice_get (frames ++ g ∷ []) j ≡ Some a → (j < length frames) ⊎ (j ≡ length frames)
     below j a e = let lt : j < length frames + 1 = within_push frames g a j e in search arith
+
     each : (j : ℕ) (a : Frame) → slice_get (frames ++ g ∷ []) j ≡ Some a → (j < length frames) ⊎ (j ≡ length frames) → FrameOf code a
     each j a e (inl lt) = h.each j a (sym (get_push frames g j lt) ∙ e)
     each j a e (inr s) = let x : a ≡ g = get_last frames g a j s e in rw x ok
+
     waits : (i : ℕ) (a b : Frame) → slice_get (frames ++ g ∷ []) i ≡ Some a → slice_get (frames ++ g ∷ []) (i + 1) ≡ Some b → (i + 1 < length frames) ⊎ (i + 1 ≡ length frames) → Awaits code a b.function
     waits i a b e q (inl lt) =
         let small : i < length frames = omega arith in
@@ -181,7 +184,7 @@ frames_push code frames f g h t ok awaits = record {
         let y : f ≡ a = same_some (slice_get frames (length frames - 1)) f a t there in
         rw (x, ← y) awaits
 
-get_take : (frames : List Frame) (k j : ℕ) (g : Frame) → slice_get (take k frames) j ≡ Some g → slice_get frames j ≡ Some g
+pub get_take : (frames : List Frame) (k j : ℕ) (g : Frame) → slice_get (take k frames) j ≡ Some g → slice_get frames j ≡ Some g
 get_take [] zero j g e = cc
 get_take [] (suc k) j g e = cc
 get_take (x ∷ xs) zero j g e = cc

@@ -2,3 +2,4 @@ pub mod WordLoops
 pub mod Follow
 pub mod Operands
 pub mod FrameLists
+pub mod Kept

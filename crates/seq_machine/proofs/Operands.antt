@@ -88,6 +88,7 @@ fit_more types values i v lt is holds h j t w below e q = go (search arith)
   where
     here : slice_get values i ≡ Some v
     here = slice_get-get_or values i v lt ∙ ap Some (sym is)
+
     go : (j < i) ⊎ (j ≡ i) → IsOf t w
     go (inl less) = h j t w less e q
     go (inr same) =

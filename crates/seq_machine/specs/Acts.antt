@@ -159,6 +159,12 @@ pub record Acted : Type 0 where
   pub control : Control
   pub ended : Option Integer
 
+abbrev pub control_of : List Frame → ℕ → Text → Control
+control_of frames place output = record { frames = frames; input_place = place; output = output }
+
+abbrev pub acted_of : List Frame → ℕ → Text → Option Integer → Acted
+acted_of frames place output ended = record { control = control_of frames place output; ended = ended }
+
 abbrev pub going_on : Control → Acted
 going_on c = record { control = c; ended = None }
 

@@ -58,6 +58,12 @@ abbrev pub result_of : Option FunctionCode → Option Scalar
 result_of (Some g) = g.result
 result_of None = None
 
+-- the caller's register, where there is one, may hold the value, where there is one
+abbrev pub HoldsResult : List Scalar → Option ℕ → Option Value → Type 0
+HoldsResult types None v = Unit {0}
+HoldsResult types (Some to) None = Unit {0}
+HoldsResult types (Some to) (Some v) = Holds types to v
+
 -- an effect that leaves such frames, where f is the top one
 abbrev pub EffectOf : Code → Frame → Effect → Type 0
 EffectOf code f Next = HasMore code f

@@ -106,10 +106,7 @@ fn receives(types: &List<Scalar>, to: Option<u32>, result_type: Option<Scalar>) 
 }
 
 /// The registers of a new frame.
-fn entry_registers(
-    function: &FunctionCode,
-    values: &[Value],
-) -> Result<List<Option<Value>>, Memory>
+fn entry_registers(function: &FunctionCode, values: &[Value]) -> Result<List<Option<Value>>, Memory>
     requires { length values.now ≤ length function.now.registers }
     ensures { IfOk result (λ registers. registers ≡ entry_registers function.now values.now) }
 {

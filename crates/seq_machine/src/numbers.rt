@@ -73,12 +73,7 @@ pub fn convert(
 }
 
 /// The operand as it is.
-pub fn freeze(
-    types: &List<Scalar>,
-    frame: &Frame,
-    to: u32,
-    value: Operand,
-) -> Result<Effect, Trap>
+pub fn freeze(types: &List<Scalar>, frame: &Frame, to: u32, value: Operand) -> Result<Effect, Trap>
     ensures effect { result ≡ frozen types.now frame.now to value }
     ensures sets { IfOk result (Sets types.now) }
 {

@@ -40,20 +40,32 @@ pub enum Effect {
     /// The next instruction.
     Next,
     /// A register is set, and the next instruction.
-    Give { to: u32, value: Value },
+    Give {
+        to: u32,
+        value: Value,
+    },
     /// A register holds a new stack object, whose name is the frame's own.
-    Keep { to: u32, name: u32 },
+    Keep {
+        to: u32,
+        name: u32,
+    },
     /// The edge of this number is taken.
-    Edge { edge: u32 },
+    Edge {
+        edge: u32,
+    },
     /// A new frame of a function.
     Enter {
         function: u32,
         registers: List<Option<Value>>,
     },
     /// The top frame ends.
-    Back { value: Option<Value> },
+    Back {
+        value: Option<Value>,
+    },
     /// The run ends.
-    Exit { code: Int },
+    Exit {
+        code: Int,
+    },
     /// A text is printed, and a register is set.
     Print {
         text: Bytes,

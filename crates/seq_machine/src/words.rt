@@ -53,18 +53,16 @@ fn pointer_word(pointer: Pointer) -> Word
     if same_pointer(pointer, Pointer::Null) {
         return Word::of(&[Byte::Num(0); 8]);
     }
-    Word::of(
-        &[
-            Byte::Ptr { part: 0, pointer },
-            Byte::Ptr { part: 1, pointer },
-            Byte::Ptr { part: 2, pointer },
-            Byte::Ptr { part: 3, pointer },
-            Byte::Ptr { part: 4, pointer },
-            Byte::Ptr { part: 5, pointer },
-            Byte::Ptr { part: 6, pointer },
-            Byte::Ptr { part: 7, pointer },
-        ],
-    )
+    Word::of(&[
+        Byte::Ptr { part: 0, pointer },
+        Byte::Ptr { part: 1, pointer },
+        Byte::Ptr { part: 2, pointer },
+        Byte::Ptr { part: 3, pointer },
+        Byte::Ptr { part: 4, pointer },
+        Byte::Ptr { part: 5, pointer },
+        Byte::Ptr { part: 6, pointer },
+        Byte::Ptr { part: 7, pointer },
+    ])
 }
 
 /// The bytes of a value of the type.

@@ -13,8 +13,7 @@ overflow_add-number c =
 pub loop-i-preserved : goal.loop-i-preserved
 loop-i-preserved c =
     let same : c.loop-i.i ≡ suc (c.loop-i.i - 1) = omega arith in
-    let gap : length c.args.bytes.now - (c.loop-i.i - 1) ≡ suc (length c.args.bytes.now - c.loop-i.i) = omega arith in
-    (
+    let gap : length c.args.bytes.now - (c.loop-i.i - 1) ≡ suc (length c.args.bytes.now - c.loop-i.i) = omega arith in (
       omega arith,
       number_more c.args.bytes.now c.loop-i.i (c.loop-i.i - 1) c.from.result c.loop-i.number Unset same c.loop-i.invariant.0 (rw c.from.ensures c.in-Num.is) c.loop-i.invariant.1,
       rw gap (byte_more (length c.args.bytes.now - c.loop-i.i) c.loop-i.number c.from.result c.loop-i.invariant.2 (omega arith)),
