@@ -90,7 +90,7 @@ pub same_self : (a : Name) → same_name a a ≡ true
 same_self (Named a) = (bytes_decides a a).1 refl
 same_self (Numbered a) = eq-eqb a a refl
 
-each_same : (t : Table) (x y : ℕ) → IsTable t → x < length t.names → y < length t.names → nat_eq x y ≡ same_name (name_at t x) (name_at t y)
+pub each_same : (t : Table) (x y : ℕ) → IsTable t → x < length t.names → y < length t.names → nat_eq x y ≡ same_name (name_at t x) (name_at t y)
 each_same t x y is lt within =
     let at : slice_get t.names x ≡ Some (name_at t x) = slice_get-get_or t.names x (Numbered 0) lt in
     let to : slice_get t.names y ≡ Some (name_at t y) = slice_get-get_or t.names y (Numbered 0) within in

@@ -9,3 +9,4 @@ pub mod Steps
 pub mod Bodies
 pub mod Offsets
 pub mod Looking
+pub mod Opened

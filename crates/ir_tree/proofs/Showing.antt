@@ -122,7 +122,7 @@ pub reads_name_of : (new : Table) (k name : ℕ) → ReadsConstant (λ later. Na
 unfolding ReadsConstant
 reads_name_of new k name later at grows same = refl
 
-elements_same : (type : ℕ → TypeV) (at to : ℕ → ConstantV) (k : ℕ) (es : List Element) → AllByRecursion (λ e. e.value < k) es → ((j : ℕ) → j < k → at j ≡ to j) → elements_by type at es ≡ elements_by type to es
+pub elements_same : (type : ℕ → TypeV) (at to : ℕ → ConstantV) (k : ℕ) (es : List Element) → AllByRecursion (λ e. e.value < k) es → ((j : ℕ) → j < k → at j ≡ to j) → elements_by type at es ≡ elements_by type to es
 elements_same type at to k [] below same = refl
 elements_same type at to k (e ∷ es) below same =
     let first : at e.value ≡ to e.value = same e.value below.0 in

@@ -7,9 +7,11 @@ use Rattle.pv_base.specs.contracts.name.NamePartialEq.TheImpl.{eq-value}
 use Rattle.pv_base.specs.declared.name.Name.{Name}
 use Rattle.ir_tree.specs.declared.nodes.TypeNode.{TypeNode}
 use Rattle.ir_tree.specs.declared.nodes.TypeNode.TheVariants as node
+use Rattle.ir_tree.specs.declared.nodes.Element.{Element}
 use Rattle.ir_tree.specs.declared.nodes.ConstantNode.{ConstantNode}
-use Rattle.ir_tree.specs.Table.{Table, IsTable, TypeWithin, same_name, with_name, name_among}
-use Rattle.ir_tree.specs.Naming.{Grows}
+use Rattle.ir_tree.specs.declared.nodes.ConstantNode.TheVariants as constant
+use Rattle.ir_tree.specs.Table.{Table, IsTable, TypeWithin, ElementBefore, ConstantWithin, same_name, with_name, name_among}
+use Rattle.ir_tree.specs.Naming.{Grows, ElementWithin, ElementsWithin}
 
 within_more : (a b k : ℕ) (n : TypeNode) → a ≤ b → TypeWithin a k n → TypeWithin b k n
 within_more a b k (node.Int w) le h = tt
@@ -19,11 +21,30 @@ within_more a b k (node.Array n of) le h = h
 within_more a b k (node.Struct packed fields) le h = h
 within_more a b k (node.Named name) le h = omega arith
 
+elements_more : (a b k : ℕ) (es : List Element) → a ≤ b → All (ElementBefore a k) es → All (ElementBefore b k) es
+elements_more a b k es le all = λ i d lt. record { of = let h = (all i d lt).of in omega arith; value = (all i d lt).value }
+
+constant_more : (a b c d k : ℕ) (n : ConstantNode) → a ≤ b → c ≤ d → ConstantWithin a c k n → ConstantWithin b d k n
+constant_more a b c d k (constant.Integer n) le also h = tt
+constant_more a b c d k constant.Null le also h = tt
+constant_more a b c d k constant.Zero le also h = tt
+constant_more a b c d k (constant.Text bytes) le also h = tt
+constant_more a b c d k (constant.Array es) le also h = elements_more c d k es also h
+constant_more a b c d k (constant.Struct packed es) le also h = elements_more c d k es also h
+constant_more a b c d k (constant.Name name) le also h = omega arith
+constant_more a b c d k (constant.Address of base es) le also h = (omega arith, h.1, elements_more c d k es also h.2)
+
+-- elements that have numbers of the table may stand in its next constant
+pub elements_before : (t : Table) (es : List Element) → ElementsWithin t es → All (ElementBefore (length t.types) (length t.constants)) es
+elements_before t es all = λ i d lt. record { of = (all i d lt).of; value = (all i d lt).value }
+
 pub table_named : (t : Table) (names : List Name) → IsTable t → IsDistinct same_name names → length t.names ≤ length names → IsTable (record { names = names; types = t.types; constants = t.constants })
 table_named t names is distinct more = record {
   distinct = distinct;
   types = λ k n e. within_more (length t.names) (length names) k n more (is.types k n e);
   count = is.count;
+  constants = λ k n e. constant_more (length t.names) (length names) (length t.types) (length t.types) k n more (omega arith) (is.constants k n e);
+  constant_count = is.constant_count;
 }
 
 -- an item of a list with one more is one of the list, or the last
@@ -38,15 +59,36 @@ table_typed t n is within lt = record {
   distinct = is.distinct;
   types = λ k m e. item_of_push t.types n m k (TypeWithin (length t.names)) is.types within e;
   count = omega (arith, length-append t.types (n ∷ []));
+  constants = λ k m e. constant_more (length t.names) (length t.names) (length t.types) (length (t.types ++ n ∷ [])) k m (omega arith) (omega (arith, length-append t.types (n ∷ []))) (is.constants k m e);
+  constant_count = is.constant_count;
 }
 
-pub table_valued : (t : Table) (constants : List ConstantNode) → IsTable t → IsTable (record { names = t.names; types = t.types; constants = constants })
-table_valued t constants is = record { distinct = is.distinct; types = is.types; count = is.count }
+pub table_valued : (t : Table) (n : ConstantNode) → IsTable t → ConstantWithin (length t.names) (length t.types) (length t.constants) n → length t.constants < 2 ^ 32
+    → IsTable (record { names = t.names; types = t.types; constants = t.constants ++ n ∷ [] })
+table_valued t n is within lt = record {
+  distinct = is.distinct;
+  types = is.types;
+  count = is.count;
+  constants = λ k m e. item_of_push t.constants n m k (ConstantWithin (length t.names) (length t.types)) is.constants within e;
+  constant_count = omega (arith, length-append t.constants (n ∷ []));
+}
 
 stays : {X : Type 0} (xs ys : List X) (k : ℕ) (x : X) → slice_get xs k ≡ Some x → slice_get (xs ++ ys) k ≡ Some x
 stays [] ys k x e = absurd cc
 stays (y ∷ xs) ys zero x e = e
 stays (y ∷ xs) ys (suc k) x e = stays xs ys k x e
+
+-- the last item of a list with one more
+pub last_of_push : {X : Type 0} (xs : List X) (x : X) → slice_get (xs ++ x ∷ []) (length xs) ≡ Some x
+last_of_push [] x = refl
+last_of_push (y ∷ xs) x = last_of_push xs x
+
+pub types_grow : (t : Table) (n : TypeNode) → Grows t (record { names = t.names; types = t.types ++ n ∷ []; constants = t.constants })
+types_grow t n = record {
+  names = λ k x h. h;
+  types = λ k x h. stays t.types (n ∷ []) k x h;
+  constants = λ k x h. h;
+}
 
 longer_if : (names : List Name) (name : Name) (b : Bool) → length names ≤ length (if b then names else names ++ name ∷ [])
 longer_if names name true = omega arith

@@ -129,6 +129,7 @@ pub record Found : Type 0 where
 pub record IsFound (t : Table) (ns : List (NamedType ℕ ℕ)) (f : Found) : Type 0 where
   pub within : All (NamedWithin t) ns
   pub layouts : AreLayouts t ns f.layouts
+  pub bounded : AreBounded f.layouts
   pub bodies : AreBodies ns (length t.names) f.bodies
   pub places : AllPlaces t f.layouts (length t.types) f.places
 
@@ -140,3 +141,8 @@ place_at f k i = slice_index_or (slice_index_or f.places k []) i None
 abbrev pub node_place : Found → TypeNode → ℕ → ℕ → Option ℕ
 node_place f (node.Named x) k i = option_and_then (λ b. place_at f b i) (slice_index_or f.bodies x None)
 node_place f n k i = place_at f k i
+
+-- the number of a type, or of what it is a name of
+abbrev pub node_body : Found → TypeNode → ℕ → Option ℕ
+node_body f (node.Named x) k = slice_index_or f.bodies x None
+node_body f n k = Some k

@@ -97,3 +97,14 @@ fields_of types of = struct_fields of
 -- the offset in bytes of the field of an index
 abbrev pub offset_of : List (NamedType Name TypeV) → TypeV → ℕ → Option ℕ
 offset_of types of i = option_and_then (λ f. place_in f.0 (layouts_with (named_layout (length types) types) f.1) i) (fields_of types of)
+
+-- a type, or what it is a name of
+abbrev pub opened : List (NamedType Name TypeV) → TypeV → Option TypeV
+opened types (NamedV name) = type_named types name
+opened types of = Some of
+
+-- the type of the field of an index
+abbrev pub field_type : TypesV → ℕ → Option TypeV
+field_type NoneV i = None
+field_type (MoreV type rest) zero = Some type
+field_type (MoreV type rest) (suc i) = field_type rest i

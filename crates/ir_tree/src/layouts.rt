@@ -1,7 +1,7 @@
 //! The layouts of all types of a table, found once and looked up from then on.
 ghost use Rattle.std.specs.Prelude.{◌≡◌, ◌<◌, length, map, All, IfOk};
 ghost use Rattle.ir_tree.specs.Layouts.{struct_layout};
-ghost use Rattle.ir_tree.specs.Filling.{answer_at, named_answer, node_layout, node_place, place_at, AreBodies, AreBounded, IsFound, NamedWithin, Passes, Reaches, Settles, Tries};
+ghost use Rattle.ir_tree.specs.Filling.{answer_at, named_answer, node_body, node_layout, node_place, place_at, AreBodies, AreBounded, IsFound, NamedWithin, Passes, Reaches, Settles, Tries};
 
 use crate::fields::all_places;
 use crate::items::NamedType;
@@ -290,6 +290,19 @@ impl Layouts {
                 None => None,
             },
             None => None,
+        }
+    }
+
+    /// The number of a type, or of what it is a name of; `None` where a name has no type.
+    pub(crate) fn opened(&self, node: &TypeNode, number: TypeId) -> Option<TypeId>
+        ensures { result ≡ node_body self.now node.now number }
+    {
+        match node {
+            TypeNode::Named(name) => match self.bodies.as_slice().get(*name as usize) {
+                Some(body) => *body,
+                None => None,
+            },
+            _ => Some(number),
         }
     }
 

@@ -1,6 +1,6 @@
 //! Names, types and constants, numbered in order of appearance.
 ghost use Rattle.std.specs.Prelude.{◌≡◌, ℕ, ◌<◌, ◌++◌, ◌∷◌, Some, IfOk, OnOk, OnErr, slice_get, option_copied, length, All};
-ghost use Rattle.ir_tree.specs.Table.{Table, TypeWithin, IsTable, with_name};
+ghost use Rattle.ir_tree.specs.Table.{Table, TypeWithin, ConstantWithin, IsTable, with_name};
 ghost use Rattle.ir_tree.specs.Trees.{IntV, PtrV, VoidV, ArrayV, StructV, NamedV};
 ghost use Rattle.ir_tree.specs.Trees.{IntegerC, NullC, ZeroC, TextC, ArrayC, StructC, NameC, AddressC};
 ghost use Rattle.ir_tree.specs.Naming.{Grows, Shows, ShowsConstant, ElementsWithin, type_at, types_at, constant_at, elements_at, name_at};
@@ -68,7 +68,7 @@ impl Names {
         Ok(number as u32)
     }
 
-    /// No name has two numbers, and what stands in a type has a smaller number.
+    /// No name has two numbers, and what stands in a type or a constant has a smaller number.
     pub fn is_table(&self)
         ensures { IsTable self.now }
     {
@@ -87,6 +87,13 @@ impl Names {
         ensures { result ≡ length self.now.types }
     {
         self.types.len()
+    }
+
+    /// How many constants there are.
+    pub fn constant_count(&self) -> usize
+        ensures { result ≡ length self.now.constants }
+    {
+        self.constants.len()
     }
 
     pub fn name(&self, number: NameId) -> Option<&Name>
@@ -121,14 +128,13 @@ impl Names {
         if number >= NUMBERS {
             return Err(Memory);
         }
-        match self.types.push(node) {
-            Ok(()) => Ok(number as u32),
-            Err(_) => Err(Memory),
-        }
+        self.types.push(node)?;
+        Ok(number as u32)
     }
 
     /// The number of a new constant.
     fn add_constant(&mut self, node: ConstantNode) -> Result<ConstantId, Memory>
+        requires { ConstantWithin (length self.old.names) (length self.old.types) (length self.old.constants) node }
         ensures known { IfOk result (λ k. slice_get self.new.constants k ≡ Some node) }
         ensures last { IfOk result (λ k. k ≡ length self.old.constants) }
         ensures within { IfOk result (λ k. k < length self.new.constants) }
@@ -140,10 +146,8 @@ impl Names {
         if number >= NUMBERS {
             return Err(Memory);
         }
-        match self.constants.push(node) {
-            Ok(()) => Ok(number as u32),
-            Err(_) => Err(Memory),
-        }
+        self.constants.push(node)?;
+        Ok(number as u32)
     }
 
     /// `iN`

@@ -1,7 +1,10 @@
 //! A module: its names, types and items, with what is found once of them.
-ghost use Rattle.std.specs.Prelude.{◌≡◌, ◌<◌, length, All, IfOk, Some, IsSome};
+ghost use Rattle.std.specs.Prelude.{◌≡◌, ◌<◌, length, All, IfOk, IfSome, Some, IsSome, option_map};
 ghost use Rattle.ir_tree.specs.Filling.{NamedWithin};
-ghost use Rattle.ir_tree.specs.Modules.{layout_in, offset_in};
+ghost use Rattle.ir_tree.specs.Bounds.{IsLayout};
+ghost use Rattle.ir_tree.specs.Layouts.{opened};
+ghost use Rattle.ir_tree.specs.Naming.{type_at};
+ghost use Rattle.ir_tree.specs.Modules.{layout_in, offset_in, types_of};
 
 use crate::items::{Function, Global, NamedType};
 use crate::layout::Layout;
@@ -87,8 +90,35 @@ impl Module {
         self.layouts.of(of)
     }
 
+    fn layout_at(&self, of: TypeId) -> Option<Layout>
+        ensures { result ≡ layout_in self.now of }
+    {
+        match self.names.type_node(of) {
+            Some(_) => self.layouts.of(of),
+            None => Some(Layout { size: 8, align: 8 }),
+        }
+    }
+
+    fn is_bounded(&self, of: TypeId)
+        ensures { IfSome (layout_in self.now of) IsLayout }
+    {
+        match self.names.type_node(of) {
+            Some(_) => (),
+            None => (),
+        }
+    }
+
+    fn opened(&self, of: TypeId) -> Option<TypeId>
+        ensures { option_map (type_at self.now.names) result ≡ opened (types_of self.now) (type_at self.now.names of) }
+    {
+        self.names.is_table();
+        match self.names.type_node(of) {
+            Some(node) => self.layouts.opened(node, of),
+            None => Some(of),
+        }
+    }
+
     fn place(&self, of: TypeId, index: u32) -> Option<u64>
-        requires { of < length self.now.names.types }
         ensures { result ≡ offset_in self.now of index }
     {
         self.names.is_table();
@@ -107,6 +137,20 @@ pub fn layout(tree: &Module, of: TypeId) -> Option<Layout>
     tree.layout(of)
 }
 
+/// The same of any number: one that the table lacks is taken for `ptr`.
+pub fn layout_at(tree: &Module, of: TypeId) -> Option<Layout>
+    ensures { result ≡ layout_in tree.now of }
+{
+    tree.layout_at(of)
+}
+
+/// A layout has a size below 2^63 and an alignment of 1 to 8.
+pub fn layout_is_bounded(tree: &Module, of: TypeId)
+    ensures { IfSome (layout_in tree.now of) IsLayout }
+{
+    tree.is_bounded(of);
+}
+
 /// The offset in bytes of a field of a struct, which may be named. It takes no memory, and only looks up.
 pub fn field_offset(tree: &Module, of: TypeId, index: u32) -> u64
     requires type_in { of < length tree.now.names.types }
@@ -117,4 +161,19 @@ pub fn field_offset(tree: &Module, of: TypeId, index: u32) -> u64
         Some(place) => place,
         None => unreachable!(),
     }
+}
+
+/// The same offset; `None` where the type is no struct with that field, or has no layout.
+pub fn field_place(tree: &Module, of: TypeId, index: u32) -> Option<u64>
+    ensures { result ≡ offset_in tree.now of index }
+{
+    tree.place(of, index)
+}
+
+/// The number of a type, or where it is a name the number of the type that it names; `None` where a name has no type. It
+/// takes no memory, and only looks up.
+pub fn opened(tree: &Module, of: TypeId) -> Option<TypeId>
+    ensures { option_map (type_at tree.now.names) result ≡ opened (types_of tree.now) (type_at tree.now.names of) }
+{
+    tree.opened(of)
 }

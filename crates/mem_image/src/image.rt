@@ -178,8 +178,8 @@ impl Image {
         size > LIVE_LIMIT - self.live
     }
 
-    /// Puts a new object at the end.
-    fn push(
+    /// Adds an object with these bytes, for which there is room, and gives its name.
+    pub fn push(
         &mut self,
         site: AllocSite,
         kind: Kind,

@@ -10,6 +10,7 @@ returns c = record {
       (rw c.as_slice-3.ensures at c.follow.ensures.reaches)
       (rw c.as_slice-4.ensures at c.settle.ensures.reaches)
       (rw c.as_slice-4.ensures at c.settle.ensures.done);
+  bounded = c.settle.ensures.bounded;
   bodies = rw c.name_count.ensures at c.in_ok-bodies.ensures;
   places = rw c.as_slice-5.ensures at c.in_ok-places.ensures;
 }

@@ -1,0 +1,11 @@
+pub mod Tables
+pub mod Noted
+pub mod Going
+pub mod Zeros
+pub mod Items
+pub mod Values
+pub mod Every
+pub mod Switching
+pub mod Arms
+pub mod Growing
+pub mod Looking

@@ -1,0 +1,10 @@
+use Rattle.std.proofs.Common.{◌≡◌, ℕ, drop}
+use Rattle.std.specs.Prelude.{option_map, fold}
+use Rattle.ir_code.specs.Options.{every}
+use Rattle.ir_code.specs.Places.{exit_at}
+use Rattle.ir_code.specs.Families.{case_at, cases_at}
+use Rattle.ir_code.proofs.Switching.{CasesTo}
+use Rattle.ir_code.proofs.exits.cases.Given as goal
+
+abbrev pub invariant-loop-one : goal.invariant-loop-one
+invariant-loop-one l = CasesTo (case_at l.lookups (exit_at l.labels l.exits.targets l.exits.first) l.of) l.all l.one-index l.cases

@@ -1,0 +1,15 @@
+pub mod Options
+pub mod Places
+pub mod Noting
+pub mod Cases
+pub mod Tables
+pub mod Exits
+pub mod Families
+pub mod Addresses
+pub mod Blocks
+pub mod Adding
+pub mod Coding
+pub mod Strides
+pub mod Fixed
+pub mod Leading
+pub mod Walking

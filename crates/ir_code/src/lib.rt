@@ -1,0 +1,17 @@
+//! A module with its names resolved: what the machine runs.
+#![tactic(auto)]
+
+mod addresses;
+mod calls;
+pub mod cases;
+pub mod code;
+mod edges;
+mod exits;
+mod families;
+pub mod fixed;
+mod joins;
+mod lookups;
+pub mod op;
+mod places;
+mod scope;
+pub mod strides;

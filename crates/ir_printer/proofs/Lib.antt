@@ -1,0 +1,5 @@
+pub mod Spelled
+pub mod Stacks
+pub mod Parts
+pub mod Bracketing
+pub mod Sites

@@ -1,0 +1,14 @@
+use Rattle.std.proofs.Common.{◌++◌, map, sym}
+use Rattle.ir_tree.specs.Naming.{type_at}
+use Rattle.ir_tree.specs.Shown.{shown, shown_argument, shown_arm, shown_case, shown_param, shown_block, shown_named, shown_global, shown_function}
+use Rattle.ir_printer.specs.Pieces.{bytes_of, joined}
+use Rattle.ir_printer.specs.Operands.{argument_pieces}
+use Rattle.ir_printer.specs.Instructions.{arm_pieces, case_pieces}
+use Rattle.ir_printer.specs.Items.{param_pieces, instruction_line, block_pieces, named_pieces, global_pieces, function_pieces}
+use Rattle.ir_printer.proofs.Spelled.{joined_step}
+use Rattle.ir_printer.proofs.items.put_lines.Goals as goal
+
+pub loop-line-preserved : goal.loop-line-preserved
+loop-line-preserved c =
+    joined_step instruction_line (shown c.args.names.now) c.args.lines.now c.loop-line.line-index c.line-item.result c.line-item.result c.loop-line.to c.put_line.new.to
+    (c.args.to.now ++ bytes_of (joined (map instruction_line (map (shown c.args.names.now) c.args.lines.now)))) c.loop-line-test.true (sym c.line-item.is) c.in_ok-put_line.ensures c.loop-line.invariant

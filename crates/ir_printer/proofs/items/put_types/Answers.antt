@@ -1,0 +1,14 @@
+use Rattle.std.proofs.Common.{◌++◌, map, refl}
+use Rattle.ir_tree.specs.Naming.{type_at}
+use Rattle.ir_tree.specs.Shown.{shown, shown_argument, shown_arm, shown_case, shown_param, shown_block, shown_named, shown_global, shown_function}
+use Rattle.ir_printer.specs.Pieces.{bytes_of, joined}
+use Rattle.ir_printer.specs.Operands.{argument_pieces}
+use Rattle.ir_printer.specs.Instructions.{arm_pieces, case_pieces}
+use Rattle.ir_printer.specs.Items.{param_pieces, instruction_line, block_pieces, named_pieces, global_pieces, function_pieces}
+use Rattle.ir_printer.proofs.Spelled.{joined_step}
+use Rattle.ir_printer.proofs.items.put_types.Goals as goal
+
+pub loop-named-preserved : goal.loop-named-preserved
+loop-named-preserved c =
+    joined_step named_pieces (shown_named c.args.names.now) c.args.types.now c.loop-named.named-index _ _ c.loop-named.to c.put_named.new.to
+    (c.args.to.now ++ bytes_of (joined (map named_pieces (map (shown_named c.args.names.now) c.args.types.now)))) c.loop-named-test.true refl c.in_ok-put_named.ensures c.loop-named.invariant

@@ -1,0 +1,9 @@
+pub mod Cases
+pub mod TypeLemmas
+pub mod SameLemmas
+pub mod ClassLemmas
+pub mod NamedLemmas
+pub mod PathLemmas
+pub mod ConstantLemmas
+pub mod FlagLemmas
+pub mod TogetherLemmas

@@ -1,0 +1,15 @@
+pub mod Seen
+pub mod Same
+pub mod Forms
+pub mod Defining
+pub mod Constants
+pub mod Indexing
+pub mod Calls
+pub mod Spots
+pub mod Causes
+pub mod Faults
+pub mod Numbering
+pub mod Reading
+pub mod Checked
+pub mod Heads
+pub mod Classes

@@ -1,0 +1,16 @@
+pub mod Tokens
+pub mod Reading
+pub mod Choice
+pub mod Repeated
+pub mod Lists
+pub mod Passed
+pub mod Stopping
+pub mod Tails
+pub mod Trailing
+pub mod Types
+pub mod Named
+pub mod Nested
+pub mod TypeSpelled
+pub mod Spelled
+pub mod Lawful
+pub mod Leaves

@@ -1,0 +1,19 @@
+-- The named types of a whole text.
+use Rattle.std.specs.Prelude.{Bool, List, [], ◌∷◌, Option, Some, None, option_map, if◌then◌else◌}
+use Rattle.std.specs.Map.{lookup}
+use Rattle.pv_base.specs.declared.name.Name.{Name}
+use Rattle.ir_tree.specs.Table.{Table, same_name}
+use Rattle.ir_tree.specs.Naming as naming
+use Rattle.ir_text.specs.declared.named.NamedBody.{NamedBody}
+use Rattle.ir_text.specs.Types.{Body, Known}
+
+-- the body of a name
+abbrev pub body_in : List (Name × NamedBody) → Name → Option NamedBody
+body_in bodies name = lookup (same_name name) bodies
+
+-- with the type in place of its number
+abbrev pub body_of : Table → NamedBody → Body
+body_of table b = record { of = option_map (naming.type_at table) b.of; layout = b.layout }
+
+abbrev pub known_of : Table → List (Name × NamedBody) → Known
+known_of table bodies name = option_map (body_of table) (body_in bodies name)

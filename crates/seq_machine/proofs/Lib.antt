@@ -1,0 +1,5 @@
+pub mod WordLoops
+pub mod Follow
+pub mod Operands
+pub mod FrameLists
+pub mod Kept

@@ -1,0 +1,67 @@
+-- The loops over the bytes of a word.
+use Rattle.std.proofs.Common.{◌≡◌, ℕ, zero, suc, ◌+◌, ◌-◌, ◌*◌, ◌/◌, ◌%◌, ◌^◌, ◌<◌, ◌≤◌, List, [], ◌∷◌, ◌++◌, length, take, drop, slice_set, get_or, Option, Some, None, refl, sym, ◌∙◌, ap, arith, append_assoc, append-nil, drop-cons, lit<, lit≤}
+use Rattle.std.specs.List.{All}
+use Rattle.std.specs.Prelude.{option_map}
+use Rattle.std.proofs.lemmas.List.{take_more_set}
+use Rattle.std.proofs.Math.Nat.{pow-le-pow_right, pow-suc}
+use Rattle.mem_image.specs.declared.object.Byte.{Byte}
+use Rattle.mem_image.specs.declared.object.Byte.TheVariants.{Unset, Num, Ptr}
+use Rattle.mem_image.specs.Picture.{PartFits, IsWord}
+use Rattle.seq_machine.specs.Words.{number_bytes, number_of}
+
+length_bytes : (len n : ℕ) → length (number_bytes len n) ≡ len
+length_bytes zero n = refl
+length_bytes (suc k) n = ap suc (length_bytes k (n / 256))
+
+parts : (len n k : ℕ) (d : Byte) → k < length (number_bytes len n) → PartFits (get_or (number_bytes len n) k d)
+parts zero n k d lt = absurd (omega arith)
+parts (suc j) n zero d lt = tt
+parts (suc j) n (suc k) d lt = parts j (n / 256) k d (omega arith)
+
+pub is_word : (len n : ℕ) → 1 ≤ len → len ≤ 8 → IsWord (number_bytes len n)
+is_word len n some most = let e : length (number_bytes len n) ≡ len = length_bytes len n in record { some = rw e some; most = rw e most; parts = parts len n }
+
+-- one more byte of a number
+pub word_more : (len i : ℕ) (bytes : List Byte) (rest : ℕ) (whole : List Byte) → i < len → i < length bytes → take i bytes ++ number_bytes (len - i) rest ≡ whole
+    → take (i + 1) (slice_set bytes i (Num (rest % 256))) ++ number_bytes (len - (i + 1)) (rest / 256) ≡ whole
+word_more len i bytes rest whole lt there e =
+    let gap : len - i ≡ suc (len - (i + 1)) = omega arith in
+    let q = rw gap at e in
+    rw (take_more_set bytes i (Num (rest % 256)) there) (append_assoc (take i bytes) (Num (rest % 256) ∷ []) (number_bytes (len - (i + 1)) (rest / 256)) ∙ q)
+
+-- where bytes are no number, nor are they with more before them
+pub none_before : (bytes : List Byte) (k : ℕ) → number_of (drop k bytes) ≡ None → number_of bytes ≡ None
+none_before [] zero e = e
+none_before [] (suc k) e = e
+none_before (b ∷ rest) zero e = e
+none_before (Unset ∷ rest) (suc k) e = refl
+none_before (Num b ∷ rest) (suc k) e = rw (none_before rest k e) refl
+none_before (Ptr part p ∷ rest) (suc k) e = refl
+
+-- seven bytes and one more fit
+pub byte_fits : (k n b : ℕ) → k ≤ 7 → n < 256 ^ k → b < 256 → n * 256 + b < 18446744073709551616
+byte_fits k n b le lt small = let h : 256 ^ k ≤ 256 ^ 7 = pow-le-pow_right {n = 256} (lit< tt) le in omega arith
+
+pub byte_more : (k n b : ℕ) → n < 256 ^ k → b < 256 → n * 256 + b < 256 ^ suc k
+byte_more k n b lt small = rw (pow-suc 256 k) (omega arith)
+
+-- one more byte before a number
+pub number_more : (bytes : List Byte) (i j b n : ℕ) (d : Byte) → i ≡ suc j → i ≤ length bytes → get_or bytes j d ≡ Num b → number_of (drop i bytes) ≡ Some n → number_of (drop j bytes) ≡ Some (n * 256 + b)
+number_more bytes i j b n d same le is e =
+    let lt : j < length bytes = omega arith in
+    let after = rw same at e in
+    rw (drop-cons bytes j d, is, after) (ap Some (omega arith))
+
+not_number : (b : Byte) (rest : List Byte) → ((x : ℕ) → b ≡ Num x → ⊥) → number_of (b ∷ rest) ≡ None
+not_number Unset rest h = refl
+not_number (Num x) rest h = absurd (h x refl)
+not_number (Ptr part p) rest h = refl
+
+-- a byte that is no number
+pub no_number : (bytes : List Byte) (j : ℕ) (d : Byte) → j < length bytes → ((x : ℕ) → get_or bytes j d ≡ Num x → ⊥) → number_of bytes ≡ None
+no_number bytes j d lt h = none_before bytes j (rw (drop-cons bytes j d) (not_number (get_or bytes j d) (drop (suc j) bytes) h))
+
+pub word_done : (len i : ℕ) (bytes : List Byte) (rest n : ℕ) → i ≡ len → take i bytes ++ number_bytes (len - i) rest ≡ number_bytes len n → take len bytes ≡ number_bytes len n
+word_done len i bytes rest n same h =
+    let z : len - i ≡ zero = omega arith in
+    rw (← same) (sym (append-nil (take i bytes)) ∙ rw (← same) at (rw z at h))

@@ -1,0 +1,8 @@
+use Rattle.std.proofs.Common.{◌≡◌, ◌∙◌, Some}
+use Rattle.std.proofs.Common.{slice_set}
+use Rattle.seq_machine.proofs.Operands.{entry_more}
+use Rattle.seq_machine.proofs.flow.entry_registers.Goals as goal
+
+pub loop-i-preserved : goal.loop-i-preserved
+loop-i-preserved c =
+    rw (c.set.ensures, c.loop-i.invariant) (entry_more _ _ _ _ c.loop-i-test.true c.requires c.index-values-i.is)

@@ -1,0 +1,8 @@
+pub mod Script
+pub mod Values
+pub mod Numbers
+pub mod Words
+pub mod Accesses
+pub mod Flow
+pub mod Acts
+pub mod Frames
