@@ -14,16 +14,16 @@ use std::alloc::Global;
 
 /// The memory in which a program starts: each global is an object under its number, with its first bytes, and the next name is
 /// their count. It takes time and memory linear in the bytes and in the initialisers as they are written out.
-pub fn first_image(alloc: Global, module: &Module, constants: &Constants) -> Result<Image, Memory>
-    requires fixed { AreFixed module.now constants.now }
-    requires fit { GlobalsFit module.now }
-    ensures { IfOk result (λ image. image ≡ first_picture module.now) }
+pub fn first_image(alloc: Global, tree: &Module, constants: &Constants) -> Result<Image, Memory>
+    requires fixed { AreFixed tree.now constants.now }
+    requires fit { GlobalsFit tree.now }
+    ensures { IfOk result (λ image. image ≡ first_picture tree.now) }
 {
-    let globals = module.globals();
+    let globals = tree.globals();
     let mut image = Image::new(alloc);
     for number in 0..globals.len() {
         let global = globals[number];
-        let bytes = initial_bytes(alloc, module, constants, global.of, global.init)?;
+        let bytes = initial_bytes(alloc, tree, constants, global.of, global.init)?;
         let site = AllocSite::Global(number as u32);
         image.push(site, Kind::Global, global.constant, bytes)?;
     }

@@ -33,31 +33,31 @@ fn push_values(work: &mut List<Work>, elements: &[Element]) -> Result<(), Memory
 }
 
 /// The greatest alignment of fields.
-fn greatest(module: &Module, packed: bool, fields: &[Element]) -> u64
-    ensures value { result ≡ greatest module.now packed 1 fields.now }
+fn greatest(tree: &Module, packed: bool, fields: &[Element]) -> u64
+    ensures value { result ≡ greatest tree.now packed 1 fields.now }
     ensures some { 0 < result }
 {
     let mut align = 1u64;
     for field in fields {
-        align = align.max(alignment(module, packed, field.of));
+        align = align.max(alignment(tree, packed, field.of));
     }
     align
 }
 
 /// Puts the fields of a struct, each behind its padding, before what is to come.
 fn push_fields(
-    module: &Module,
+    tree: &Module,
     packed: bool,
     start: usize,
     fields: &[Element],
     work: &mut List<Work>,
 ) -> Result<(), Memory>
-    ensures put { OnOk result (reverse work.new ≡ field_works module.now packed start fields.now ++ reverse work.old) }
-    ensures aligned { OnOk result (AreAligned module.now packed fields.now) }
+    ensures put { OnOk result (reverse work.new ≡ field_works tree.now packed start fields.now ++ reverse work.old) }
+    ensures aligned { OnOk result (AreAligned tree.now packed fields.now) }
 {
     for i in (0..fields.len()).rev() {
         let field = fields[i];
-        let align = alignment(module, packed, field.of);
+        let align = alignment(tree, packed, field.of);
         work.push(Work::Value(field))?;
         work.push(Work::Padding { start, align })?;
     }
@@ -66,37 +66,37 @@ fn push_fields(
 
 /// Puts a struct that starts there before what is to come.
 fn push_struct(
-    module: &Module,
+    tree: &Module,
     packed: bool,
     start: usize,
     fields: &[Element],
     work: &mut List<Work>,
 ) -> Result<(), Memory>
-    ensures put { OnOk result (reverse work.new ≡ struct_works module.now packed start fields.now ++ reverse work.old) }
-    ensures aligned { OnOk result (AreAligned module.now packed fields.now) }
+    ensures put { OnOk result (reverse work.new ≡ struct_works tree.now packed start fields.now ++ reverse work.old) }
+    ensures aligned { OnOk result (AreAligned tree.now packed fields.now) }
 {
-    let align = greatest(module, packed, fields);
+    let align = greatest(tree, packed, fields);
     work.push(Work::Padding { start, align })?;
-    push_fields(module, packed, start, fields, work)
+    push_fields(tree, packed, start, fields, work)
 }
 
 /// Lays the bytes of a constant of a type down, or puts its parts before what is to come.
 fn lay_node(
-    module: &Module,
+    tree: &Module,
     of: TypeId,
     node: &ConstantNode,
     value: Option<Fixed>,
     work: &mut List<Work>,
     bytes: &mut List<Byte>,
 ) -> Result<(), Memory>
-    ensures { OnOk result (Lays module.now of value bytes.old (reverse work.old) bytes.new (reverse work.new) node.now) }
+    ensures { OnOk result (Lays tree.now of value bytes.old (reverse work.old) bytes.new (reverse work.new) node.now) }
 {
     match node {
-        ConstantNode::Zero => push_zeros(bytes, size(module, of)),
+        ConstantNode::Zero => push_zeros(bytes, size(tree, of)),
         ConstantNode::Text(text) => push_text(bytes, text.as_slice()),
         ConstantNode::Array(elements) => push_values(work, elements.as_slice()),
         ConstantNode::Struct { packed, fields } => {
-            push_struct(module, *packed, bytes.len(), fields.as_slice(), work)
+            push_struct(tree, *packed, bytes.len(), fields.as_slice(), work)
         }
         _ => push_scalar(bytes, value),
     }
@@ -104,38 +104,38 @@ fn lay_node(
 
 /// The same of a constant by its number.
 fn lay_value(
-    module: &Module,
+    tree: &Module,
     constants: &Constants,
     next: Element,
     work: &mut List<Work>,
     bytes: &mut List<Byte>,
 ) -> Result<(), Memory>
-    requires { AreFixed module.now constants.now }
-    ensures { OnOk result (Advances module.now bytes.old (Work.Value next) (reverse work.old) bytes.new (reverse work.new)) }
+    requires { AreFixed tree.now constants.now }
+    ensures { OnOk result (Advances tree.now bytes.old (Work.Value next) (reverse work.old) bytes.new (reverse work.new)) }
 {
-    let names = module.names();
+    let names = tree.names();
     names.is_table();
-    let value = constants.at(module, next.of, next.value);
+    let value = constants.at(tree, next.of, next.value);
     match names.constant_node(next.value) {
-        Some(node) => lay_node(module, next.of, node, value, work, bytes),
+        Some(node) => lay_node(tree, next.of, node, value, work, bytes),
         None => push_scalar(bytes, value),
     }
 }
 
 /// Lays the next piece down.
 fn lay(
-    module: &Module,
+    tree: &Module,
     constants: &Constants,
     next: Work,
     work: &mut List<Work>,
     bytes: &mut List<Byte>,
 ) -> Result<(), Memory>
-    requires fixed { AreFixed module.now constants.now }
+    requires fixed { AreFixed tree.now constants.now }
     requires within { IsWork next }
-    ensures { OnOk result (Advances module.now bytes.old next (reverse work.old) bytes.new (reverse work.new)) }
+    ensures { OnOk result (Advances tree.now bytes.old next (reverse work.old) bytes.new (reverse work.new)) }
 {
     match next {
-        Work::Value(element) => lay_value(module, constants, element, work, bytes),
+        Work::Value(element) => lay_value(tree, constants, element, work, bytes),
         Work::Padding { start, align } => {
             push_zeros(bytes, gap(bytes.len().saturating_sub(start), align))
         }
@@ -145,20 +145,20 @@ fn lay(
 /// The first bytes of a constant at a type, in time and memory linear in them and in the constant as it is written out.
 pub fn initial_bytes(
     alloc: Global,
-    module: &Module,
+    tree: &Module,
     constants: &Constants,
     of: TypeId,
     value: ConstantId,
 ) -> Result<List<Byte>, Memory>
-    requires { AreFixed module.now constants.now }
-    ensures { IfOk result (λ b. b ≡ bytes_at module.now of value) }
+    requires { AreFixed tree.now constants.now }
+    ensures { IfOk result (λ b. b ≡ bytes_at tree.now of value) }
 {
     let mut work = List::new(alloc);
     work.push(Work::Value(Element { of, value }))?;
     let mut bytes = List::new(alloc);
     'pieces: loop {
         match work.pop() {
-            Some(next) => lay(module, constants, next, &mut work, &mut bytes)?,
+            Some(next) => lay(tree, constants, next, &mut work, &mut bytes)?,
             None => return Ok(bytes),
         }
     }

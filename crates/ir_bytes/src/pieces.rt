@@ -107,25 +107,25 @@ pub(crate) fn push_scalar(bytes: &mut List<Byte>, value: Option<Fixed>) -> Resul
 }
 
 /// The size of a type, and 0 where it has none.
-pub(crate) fn size(module: &Module, of: TypeId) -> u64
-    ensures { result ≡ size_in module.now (type_at module.now.names of) }
+pub(crate) fn size(tree: &Module, of: TypeId) -> u64
+    ensures { result ≡ size_in tree.now (type_at tree.now.names of) }
 {
-    match layout_at(module, of) {
+    match layout_at(tree, of) {
         Some(layout) => layout.size,
         None => 0,
     }
 }
 
 /// The alignment of a field of a type, and 1 where it has none.
-pub(crate) fn alignment(module: &Module, packed: bool, of: TypeId) -> u64
-    ensures value { result ≡ aligned_in module.now packed (type_at module.now.names of) }
+pub(crate) fn alignment(tree: &Module, packed: bool, of: TypeId) -> u64
+    ensures value { result ≡ aligned_in tree.now packed (type_at tree.now.names of) }
     ensures some { 0 < result }
 {
-    layout_is_bounded(module, of);
+    layout_is_bounded(tree, of);
     if packed {
         return 1;
     }
-    match layout_at(module, of) {
+    match layout_at(tree, of) {
         Some(layout) => layout.align,
         None => 1,
     }

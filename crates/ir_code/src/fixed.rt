@@ -144,16 +144,16 @@ fn put_globals(items: &mut List<Option<Fixed>>, globals: &[Variable])
 }
 
 /// The items of a module by the numbers of their names.
-fn items_by_name(alloc: Global, module: &Module) -> Result<List<Option<Fixed>>, Memory>
-    ensures { IfOk result (AreNamed module.now) }
+fn items_by_name(alloc: Global, tree: &Module) -> Result<List<Option<Fixed>>, Memory>
+    ensures { IfOk result (AreNamed tree.now) }
 {
-    module.names().is_table();
-    let functions = module.functions();
-    let globals = module.globals();
+    tree.names().is_table();
+    let functions = tree.functions();
+    let globals = tree.globals();
     if functions.len() > NUMBERS || globals.len() > NUMBERS {
         return Err(Memory);
     }
-    let mut items = List::repeat(alloc, None, module.names().name_count())?;
+    let mut items = List::repeat(alloc, None, tree.names().name_count())?;
     put_functions(&mut items, functions);
     put_globals(&mut items, globals);
     Ok(items)
@@ -200,18 +200,18 @@ fn operands_at(
 /// A constant `getelementptr`.
 fn address(
     alloc: Global,
-    module: &Module,
+    tree: &Module,
     of: TypeId,
     base: Option<Fixed>,
     operands: &[Operand],
 ) -> Result<Option<Fixed>, Memory>
-    ensures { IfOk result (λ r. r ≡ address_at module.now of base operands.now) }
+    ensures { IfOk result (λ r. r ≡ address_at tree.now of base operands.now) }
 {
     let base = match base {
         Some(base) => base,
         None => return Ok(None),
     };
-    let indices = match strides(alloc, module, of, operands)? {
+    let indices = match strides(alloc, tree, of, operands)? {
         Some(indices) => indices,
         None => return Ok(None),
     };
@@ -224,12 +224,12 @@ fn address(
 /// What a constant is as a pointer, from the items by name and what was found for the constants in it.
 fn node_fixed(
     alloc: Global,
-    module: &Module,
+    tree: &Module,
     items: &[Option<Fixed>],
     found: &[Option<Fixed>],
     node: &ConstantNode,
 ) -> Result<Option<Fixed>, Memory>
-    ensures { IfOk result (λ r. r ≡ node_fixed module.now items.now found.now node.now) }
+    ensures { IfOk result (λ r. r ≡ node_fixed tree.now items.now found.now node.now) }
 {
     match node {
         ConstantNode::Integer(number) => Ok(Some(Fixed::Int(*number))),
@@ -237,8 +237,8 @@ fn node_fixed(
         ConstantNode::Name(name) => Ok(at(items, *name)),
         ConstantNode::Address { of, base, indices } => {
             let base = at(found, *base);
-            match operands_at(alloc, module.names(), found, indices.as_slice())? {
-                Some(operands) => address(alloc, module, *of, base, operands.as_slice()),
+            match operands_at(alloc, tree.names(), found, indices.as_slice())? {
+                Some(operands) => address(alloc, tree, *of, base, operands.as_slice()),
                 None => Ok(None),
             }
         }
@@ -249,21 +249,21 @@ fn node_fixed(
 /// What the next constant is as a pointer, from what was found for those before it.
 fn next_fixed(
     alloc: Global,
-    module: &Module,
+    tree: &Module,
     items: &[Option<Fixed>],
     found: &[Option<Fixed>],
     number: usize,
 ) -> Result<Option<Fixed>, Memory>
-    requires items { AreNamed module.now items.now }
-    requires found { AreFixedBelow module.now found.now }
+    requires items { AreNamed tree.now items.now }
+    requires found { AreFixedBelow tree.now found.now }
     requires next { number ≡ length found.now }
-    requires known { number < length module.now.names.constants }
-    ensures { IfOk result (λ r. r ≡ fixed_of module.now PtrV (constant_at module.now.names number)) }
+    requires known { number < length tree.now.names.constants }
+    ensures { IfOk result (λ r. r ≡ fixed_of tree.now PtrV (constant_at tree.now.names number)) }
 {
-    let names = module.names();
+    let names = tree.names();
     names.is_table();
     match names.constant_node(number as u32) {
-        Some(node) => node_fixed(alloc, module, items, found, node),
+        Some(node) => node_fixed(alloc, tree, items, found, node),
         None => Ok(None),
     }
 }
@@ -285,14 +285,14 @@ impl Model for Constants {
 
 impl Constants {
     /// Finds them in time linear in the table, however deep constants are nested.
-    pub fn new(alloc: Global, module: &Module) -> Result<Constants, Memory>
-        ensures { IfOk result (AreFixed module.now) }
+    pub fn new(alloc: Global, tree: &Module) -> Result<Constants, Memory>
+        ensures { IfOk result (AreFixed tree.now) }
     {
-        let names = module.names();
-        let items = items_by_name(alloc, module)?;
+        let names = tree.names();
+        let items = items_by_name(alloc, tree)?;
         let mut found = List::new(alloc);
         for number in 0..names.constant_count() {
-            let value = next_fixed(alloc, module, items.as_slice(), found.as_slice(), number)?;
+            let value = next_fixed(alloc, tree, items.as_slice(), found.as_slice(), number)?;
             found.push(value)?;
         }
         Ok(Constants { found })
@@ -300,11 +300,11 @@ impl Constants {
 
     /// The constant of a number at a type of a number, as a register holds it; `None` where it is an aggregate, the name of
     /// no item, or an address that cannot be found. It only looks up.
-    pub fn at(&self, module: &Module, of: TypeId, number: ConstantId) -> Option<Fixed>
-        requires { AreFixed module.now self.now }
-        ensures { result ≡ fixed_at module.now of number }
+    pub fn at(&self, tree: &Module, of: TypeId, number: ConstantId) -> Option<Fixed>
+        requires { AreFixed tree.now self.now }
+        ensures { result ≡ fixed_at tree.now of number }
     {
-        let names = module.names();
+        let names = tree.names();
         names.is_table();
         match names.constant_node(number) {
             Some(_) => value_at(names, self.found.as_slice(), of, number),

@@ -50,10 +50,10 @@ struct Step {
 }
 
 /// So many values of a type.
-fn scaled(module: &Module, of: TypeId, value: Operand) -> Option<Step>
-    ensures { LeadsTo module.now result (scaled (types_of module.now) (type_at module.now.names of) value) }
+fn scaled(tree: &Module, of: TypeId, value: Operand) -> Option<Step>
+    ensures { LeadsTo tree.now result (scaled (types_of tree.now) (type_at tree.now.names of) value) }
 {
-    let layout = layout_at(module, of)?;
+    let layout = layout_at(tree, of)?;
     let index = Index::Scaled {
         value,
         stride: layout.size,
@@ -68,11 +68,11 @@ fn type_in(fields: &[TypeId], number: u32) -> Option<TypeId>
 }
 
 /// A field of a struct with fields of these types.
-fn field(module: &Module, of: TypeId, fields: &[TypeId], value: Operand) -> Option<Step>
-    ensures { LeadsTo module.now result (option_and_then (field_stride (types_of module.now) (type_at module.now.names of) (types_at module.now.names fields.now)) (field_index value)) }
+fn field(tree: &Module, of: TypeId, fields: &[TypeId], value: Operand) -> Option<Step>
+    ensures { LeadsTo tree.now result (option_and_then (field_stride (types_of tree.now) (type_at tree.now.names of) (types_at tree.now.names fields.now)) (field_index value)) }
 {
     let number = field_index(value)?;
-    let offset = field_place(module, of, number)?;
+    let offset = field_place(tree, of, number)?;
     match type_in(fields, number) {
         Some(into) => Some(Step {
             index: Index::Field(offset),
@@ -83,44 +83,44 @@ fn field(module: &Module, of: TypeId, fields: &[TypeId], value: Operand) -> Opti
 }
 
 /// An index into a type that is no name.
-fn stride_in(module: &Module, of: TypeId, node: &TypeNode, value: Operand) -> Option<Step>
-    ensures { LeadsTo module.now result (stride_in (types_of module.now) (type_at module.now.names of) value (type_of_node (name_at module.now.names) (type_at module.now.names) node.now)) }
+fn stride_in(tree: &Module, of: TypeId, node: &TypeNode, value: Operand) -> Option<Step>
+    ensures { LeadsTo tree.now result (stride_in (types_of tree.now) (type_at tree.now.names of) value (type_of_node (name_at tree.now.names) (type_at tree.now.names) node.now)) }
 {
     match node {
         TypeNode::Array {
             count: _,
             of: element,
-        } => scaled(module, *element, value),
-        TypeNode::Struct { packed: _, fields } => field(module, of, fields.as_slice(), value),
+        } => scaled(tree, *element, value),
+        TypeNode::Struct { packed: _, fields } => field(tree, of, fields.as_slice(), value),
         _ => None,
     }
 }
 
 /// An index into a type, which may be named.
-fn stride(module: &Module, of: TypeId, value: Operand) -> Option<Step>
-    ensures { LeadsTo module.now result (stride (types_of module.now) (type_at module.now.names of) value) }
+fn stride(tree: &Module, of: TypeId, value: Operand) -> Option<Step>
+    ensures { LeadsTo tree.now result (stride (types_of tree.now) (type_at tree.now.names of) value) }
 {
-    module.names().is_table();
-    let body = opened(module, of)?;
-    match module.names().type_node(body) {
-        Some(node) => stride_in(module, of, node, value),
+    tree.names().is_table();
+    let body = opened(tree, of)?;
+    match tree.names().type_node(body) {
+        Some(node) => stride_in(tree, of, node, value),
         None => None,
     }
 }
 
 /// The indices of a front, and behind them those that go on in a type.
 fn inner_strides(
-    module: &Module,
+    tree: &Module,
     of: TypeId,
     values: &[Operand],
     front: List<Index>,
 ) -> Result<Option<List<Index>>, Memory>
-    ensures { IfOk result (λ r. r ≡ option_map (λ rest. front ++ rest) (inner_strides (types_of module.now) (type_at module.now.names of) values.now)) }
+    ensures { IfOk result (λ r. r ≡ option_map (λ rest. front ++ rest) (inner_strides (types_of tree.now) (type_at tree.now.names of) values.now)) }
 {
     let mut indices = front;
     let mut into = of;
     for value in values {
-        let step = match stride(module, into, *value) {
+        let step = match stride(tree, into, *value) {
             Some(step) => step,
             None => return Ok(None),
         };
@@ -134,21 +134,21 @@ fn inner_strides(
 /// to go into, where a size is missing, or where a struct has no such field.
 pub fn strides(
     alloc: Global,
-    module: &Module,
+    tree: &Module,
     of: TypeId,
     values: &[Operand],
 ) -> Result<Option<List<Index>>, Memory>
-    ensures { IfOk result (λ r. r ≡ strides (types_of module.now) (type_at module.now.names of) values.now) }
+    ensures { IfOk result (λ r. r ≡ strides (types_of tree.now) (type_at tree.now.names of) values.now) }
 {
     let mut indices = List::new(alloc);
     let (first, rest) = match values {
         [] => return Ok(Some(indices)),
         [first, rest @ ..] => (first, rest),
     };
-    match scaled(module, of, *first) {
+    match scaled(tree, of, *first) {
         Some(stride) => {
             indices.push(stride.index)?;
-            inner_strides(module, stride.into, rest, indices)
+            inner_strides(tree, stride.into, rest, indices)
         }
         None => Ok(None),
     }

@@ -9,21 +9,21 @@ use Rattle.ir_bytes.proofs.image.first_image.Goals as goal
 
 pub push-requires-clause-room : goal.push-requires-clause-room
 push-requires-clause-room c =
-    let m = c.args.module.now in
+    let m = c.args.tree.now in
     let none : Variable _ _ _ = record { name = 0; of = 0; constant = false; init = 0 } in
     rw (c.loop-number.invariant, c.in_ok-bytes.ensures, c.globals-globals.ensures)
     (room m m.globals c.loop-number.number live_limit none (rw c.globals-globals.ensures at c.loop-number-test.true) c.requires.fit.live)
 
 pub push-requires-clause-parts : goal.push-requires-clause-parts
 push-requires-clause-parts c =
-    let m = c.args.module.now in
+    let m = c.args.tree.now in
     let none : Variable _ _ _ = record { name = 0; of = 0; constant = false; init = 0 } in
     let g = get_or c.globals-globals.result.now c.loop-number.number none in
     rw c.in_ok-bytes.ensures (All-from_recursion PartFits (bytes_at m g.of g.init) (bytes_parts m (type_at m.names g.of) (constant_at m.names g.init)))
 
 pub loop-number-preserved : goal.loop-number-preserved
 loop-number-preserved c =
-    let m = c.args.module.now in
+    let m = c.args.tree.now in
     let none : Variable _ _ _ = record { name = 0; of = 0; constant = false; init = 0 } in
     rw (c.in_ok-push.ensures.ok, c.loop-number.invariant, c.in_ok-bytes.ensures)
     (next_picture m c.globals-globals.result.now c.loop-number.number none c.loop-number-test.true)

@@ -5,9 +5,9 @@ use Rattle.ir_bytes.proofs.initial.initial_bytes.Given as goal
 
 abbrev pub invariant-pieces : goal.invariant-pieces
 invariant-pieces l = record {
-  same : laid_out l.module l.bytes (reverse l.work) ≡ bytes_at l.module l.of l.value;
+  same : laid_out l.tree l.bytes (reverse l.work) ≡ bytes_at l.tree l.of l.value;
   inside : AreWorks (reverse l.work);
 }
 
 abbrev pub decreases-pieces : goal.decreases-pieces
-decreases-pieces l = load l.module (reverse l.work)
+decreases-pieces l = load l.tree (reverse l.work)

@@ -10,7 +10,7 @@ then_ok P Q f (Err e) h = tt
 
 pub returns-in-Some : goal.returns-in-Some
 returns-in-Some c =
-    let m = c.args.module.now in
+    let m = c.args.tree.now in
     let table = rw c.names-names.ensures at c.is_table.ensures in
     let known = rw c.names-names.ensures at (sym c.in-Some.ensures) in
     then_ok _ _
@@ -20,4 +20,4 @@ returns-in-Some c =
 pub returns-in-None : goal.returns-in-None
 returns-in-None c =
     let known = rw c.names-names.ensures at (sym c.in-None.ensures) in
-    then_ok _ _ (past_advances c.args.module.now c.args.next c.at-value.result c.args.bytes.now c.push_scalar.new.bytes (reverse c.args.work.now) known c.at-value.ensures) c.push_scalar.result c.push_scalar.ensures
+    then_ok _ _ (past_advances c.args.tree.now c.args.next c.at-value.result c.args.bytes.now c.push_scalar.new.bytes (reverse c.args.work.now) known c.at-value.ensures) c.push_scalar.result c.push_scalar.ensures

@@ -4,6 +4,6 @@ use Rattle.ir_bytes.proofs.initial.push_fields.Given as goal
 
 abbrev pub invariant-loop-i : goal.invariant-loop-i
 invariant-loop-i l = record {
-  put : reverse l.work ≡ field_works l.module l.packed l.start (drop l.i l.fields) ++ reverse l.initial.work;
-  aligned : AreAligned l.module l.packed (drop l.i l.fields);
+  put : reverse l.work ≡ field_works l.tree l.packed l.start (drop l.i l.fields) ++ reverse l.initial.work;
+  aligned : AreAligned l.tree l.packed (drop l.i l.fields);
 }

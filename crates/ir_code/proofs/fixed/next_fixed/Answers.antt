@@ -12,7 +12,7 @@ use Rattle.ir_code.proofs.fixed.next_fixed.Goals as goal
 
 pub returns-in-Some : goal.returns-in-Some
 returns-in-Some c =
-    let m = c.args.module.now in
+    let m = c.args.tree.now in
     let table = rw c.names-names.ensures at c.is_table.ensures in
     let known = rw c.names-names.ensures at (sym c.in-Some.ensures) in
     let same : node_fixed m c.args.items.now c.args.found.now c.in-Some.node.now ≡ fixed_of m PtrV (constant_at m.names c.args.number) =
@@ -23,6 +23,6 @@ returns-in-Some c =
 
 pub returns-in-None : goal.returns-in-None
 returns-in-None c =
-    let there = slice_get-get_or c.args.module.now.names.constants c.args.number constant.Null c.requires.known in
+    let there = slice_get-get_or c.args.tree.now.names.constants c.args.number constant.Null c.requires.known in
     let missing = rw c.names-names.ensures at c.in-None.ensures in
     absurd cc

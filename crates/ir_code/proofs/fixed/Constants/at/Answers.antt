@@ -8,7 +8,7 @@ use Rattle.ir_code.proofs.fixed.Constants.at.Goals as goal
 
 pub returns-in-Some : goal.returns-in-Some
 returns-in-Some c =
-    let m = c.args.module.now in
+    let m = c.args.tree.now in
     let known = rw c.names-names.ensures at (sym c.in-Some.ensures) in
     let lt = slice_get_within m.names.constants c.args.number c.in-Some.field-0.now known in
     let each = rw (← c.self.view_is) at (c.requires.each c.args.number lt) in
@@ -17,5 +17,5 @@ returns-in-Some c =
 
 pub returns-in-None : goal.returns-in-None
 returns-in-None c =
-    let m = c.args.module.now in
+    let m = c.args.tree.now in
     ap (fixed_of m (type_at m.names c.args.of)) (sym (constant_past m.names c.args.number (rw c.names-names.ensures at (sym c.in-None.ensures))))
