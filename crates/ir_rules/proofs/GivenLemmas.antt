@@ -3,6 +3,7 @@ use Rattle.std.proofs.Common.{◌≡◌, ℕ, Bool, true, false, refl, eqb-true,
 use Rattle.ir_tree.specs.Trees.{TypeV, IntV, PtrV, VoidV, ArrayV, StructV, NamedV}
 use Rattle.ir_rules.specs.Same.{same_type}
 use Rattle.ir_rules.specs.Constants.{is_pointer, has_width}
+use Rattle.ir_rules.specs.Reading.{is_void}
 use Rattle.ir_rules.proofs.ClassLemmas.{eq_swap}
 
 pub pointer_left : (b : TypeV) → same_type PtrV b ≡ is_pointer b
@@ -40,3 +41,12 @@ width_left w VoidV = refl
 width_left w (ArrayV n t) = refl
 width_left w (StructV p fs) = refl
 width_left w (NamedV x) = refl
+
+pub void_right : (a : TypeV) → same_type a VoidV ≡ is_void a
+unfolding same_type
+void_right (IntV v) = refl
+void_right PtrV = refl
+void_right VoidV = refl
+void_right (ArrayV n t) = refl
+void_right (StructV p fs) = refl
+void_right (NamedV x) = refl
