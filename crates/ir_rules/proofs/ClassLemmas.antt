@@ -71,7 +71,7 @@ fresh_class t classes b other new = record {
       ];
 }
 
-same_swap : (a b : TypeV) → same_type a b ≡ same_type b a
+pub same_swap : (a b : TypeV) → same_type a b ≡ same_type b a
 same_swap a b =
     elim (cases_Bool (same_type b a)) [
       | inl h ↦ let e : b ≡ a = type_is_same b a h in rw (e) refl
@@ -82,7 +82,7 @@ same_swap a b =
           ]
     ]
 
-eq_swap : (a b : ℕ) → nat_eq a b ≡ nat_eq b a
+pub eq_swap : (a b : ℕ) → nat_eq a b ≡ nat_eq b a
 eq_swap a b =
     elim (cases_Bool (nat_eq b a)) [
       | inl h ↦ let e : b ≡ a = eqb-true b a h in rw (e) refl

@@ -7,3 +7,7 @@ pub mod PathLemmas
 pub mod ConstantLemmas
 pub mod FlagLemmas
 pub mod TogetherLemmas
+pub mod DefiningLemmas
+pub mod ShownLemmas
+pub mod GivenLemmas
+pub mod MeetingLemmas

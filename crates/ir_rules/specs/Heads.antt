@@ -1,9 +1,9 @@
 -- What parts of a table stand for: a type by its outermost level, and a name that a table may lack.
-use Rattle.std.specs.Prelude.{◌≡◌, ℕ, Bool, true, nat_lt, if◌then◌else◌, List, length, map, slice_index_or, Option, Some, None, option_map}
+use Rattle.std.specs.Prelude.{◌≡◌, ℕ, Bool, true, nat_lt, if◌then◌else◌, List, length, map, slice_index_or, Option, Some, None, option_map, option_and_then, find}
 use Rattle.std.specs.Borrow.{Bor}
 use Rattle.pv_base.specs.declared.name.Name.{Name}
 use Rattle.pv_base.specs.declared.name.Name.TheVariants.{Numbered}
-use Rattle.ir_tree.specs.Table.{Table}
+use Rattle.ir_tree.specs.Table.{Table, same_name}
 use Rattle.ir_tree.specs.Trees.{TypeV, IntV, PtrV, VoidV, ArrayV, StructV, NamedV, TypesV, ConstantV, NullC}
 use Rattle.ir_tree.specs.Shown.{shown_operand}
 use Rattle.ir_tree.specs.declared.nodes.ConstantNode.{ConstantNode}
@@ -16,6 +16,12 @@ use Rattle.ir_rules.specs.declared.given.Use.{Use}
 use Rattle.ir_rules.specs.declared.given.Walk.{Walk}
 use Rattle.ir_rules.specs.declared.given.Walk.TheVariants.{Through, Differs, Outside}
 use Rattle.ir_rules.specs.declared.paths.Fields.{Fields}
+use Rattle.ir_tree.specs.Modules.{Items}
+use Rattle.ir_rules.specs.declared.tables.Tables.{Tables}
+use Rattle.ir_rules.specs.Seen.{seen}
+use Rattle.ir_rules.specs.Classes.{AreClasses}
+use Rattle.ir_rules.specs.Constants.{names_known, holds_together}
+use Rattle.ir_rules.specs.Defining.{given_type}
 use Rattle.ir_rules.specs.declared.types.Head.{Head}
 use Rattle.ir_rules.specs.declared.types.Head.TheVariants as head
 
@@ -77,3 +83,13 @@ pub record AreFlags (t : Table) (holds : ConstantV → Bool) (flags : List Bool)
 -- the numbers of the types that are written before elements
 abbrev pub element_types : List Element → List ℕ
 element_types elements = map (λ e. e.of) elements
+
+-- the type of a register, looked for among what its function defines
+abbrev pub found_type : Table → List (Defined ℕ ℕ) → Name → Option TypeV
+found_type t defined name = option_and_then (λ d. option_map given_type d.of) (find (λ d. same_name name d.name) (map (shown_defined t) defined))
+
+-- what is found once of the types and constants of a module
+pub record AreTables (m : Items) (t : Tables) : Type 0 where
+  pub classes : AreClasses m.names t.classes
+  pub known : AreFlags m.names (names_known (seen m)) t.known
+  pub together : AreFlags m.names (holds_together (seen m)) t.together

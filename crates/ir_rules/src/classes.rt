@@ -11,7 +11,8 @@ use pv_base::list::List;
 use pv_base::want::Memory;
 use std::alloc::Global;
 
-pub(crate) fn class_at(classes: &[usize], number: u32) -> usize
+/// The class of a number, 0 where it has none.
+pub fn class_at(classes: &[usize], number: u32) -> usize
     ensures { result ≡ class_at classes.now number }
 {
     match classes.get(number as usize) {
@@ -108,7 +109,7 @@ fn next_class(names: &Names, classes: &[usize]) -> usize
 }
 
 /// The classes of all types.
-pub(crate) fn type_classes(alloc: Global, names: &Names) -> Result<List<usize>, Memory>
+pub fn type_classes(alloc: Global, names: &Names) -> Result<List<usize>, Memory>
     ensures { IfOk result (AreClasses names.now) }
 {
     let mut classes = List::new(alloc);
@@ -120,7 +121,7 @@ pub(crate) fn type_classes(alloc: Global, names: &Names) -> Result<List<usize>, 
 }
 
 /// Whether two numbers are of one type.
-pub(crate) fn same_type(names: &Names, classes: &[usize], a: TypeId, b: TypeId) -> bool
+pub fn same_type(names: &Names, classes: &[usize], a: TypeId, b: TypeId) -> bool
     requires { AreClasses names.now classes.now }
     ensures { result ≡ same_type (type_at names.now a) (type_at names.now b) }
 {

@@ -16,7 +16,7 @@ use ir_tree::table::Names;
 use ir_tree::whole::Module;
 
 /// The constant of a number.
-pub(crate) fn constant<'a>(names: &'a Names, number: ConstantId) -> Option<&'a ConstantNode>
+pub fn constant<'a>(names: &'a Names, number: ConstantId) -> Option<&'a ConstantNode>
     ensures { constant_at names.now number ≡ node_constant names.now number (option_copied result) }
 {
     names.constant_node(number)
@@ -86,7 +86,7 @@ fn fields_fit(
 
 /// Whether a constant is one of a written type, but for what stands in it.
 #[tactic(auto, using(crate::proofs::ConstantLemmas::written_is))]
-pub(crate) fn form_written(
+pub fn form_written(
     tree: &Module,
     classes: &[usize],
     of: TypeId,

@@ -21,7 +21,8 @@ use pv_base::list::List;
 use pv_base::want::Memory;
 use std::alloc::Global;
 
-pub(crate) fn flag_at(flags: &[bool], number: u32) -> bool
+/// The flag of a number, `true` where it has none.
+pub fn flag_at(flags: &[bool], number: u32) -> bool
     ensures { result ≡ flag_at flags.now number }
 {
     match flags.get(number as usize) {
@@ -60,12 +61,7 @@ fn form_bit(value: Option<&ConstantNode>) -> bool
 }
 
 /// The same of a type as an instruction gives it.
-pub(crate) fn has_form(
-    tree: &Module,
-    classes: &[usize],
-    of: Given,
-    value: Option<&ConstantNode>,
-) -> bool
+pub fn has_form(tree: &Module, classes: &[usize], of: Given, value: Option<&ConstantNode>) -> bool
     requires { AreClasses tree.now.names classes.now }
     ensures { (k : ℕ) → result ≡ has_form (seen tree.now) (given_type (shown_given tree.now.names of)) (node_constant tree.now.names k (option_copied value.entry)) }
 {
@@ -90,7 +86,7 @@ fn is_function(names: &Names, functions: &[Function], name: NameId) -> bool
 
 /// Whether a global or a function has this name.
 #[tactic(auto, using(crate::proofs::FlagLemmas::any_of))]
-pub(crate) fn is_global(tree: &Module, name: NameId) -> bool
+pub fn is_global(tree: &Module, name: NameId) -> bool
     ensures { result ≡ is_global (seen tree.now) (name_at tree.now.names name) }
 {
     is_variable(tree.names(), tree.globals(), name)
@@ -123,7 +119,7 @@ fn known_node(tree: &Module, flags: &[bool], node: &ConstantNode) -> bool
 }
 
 /// The constant of a number.
-pub(crate) fn constant_before<'a>(
+pub fn constant_before<'a>(
     names: &'a Names,
     before: usize,
     number: ConstantId,
@@ -138,7 +134,7 @@ pub(crate) fn constant_before<'a>(
 }
 
 /// The number of a constant; `Memory` past the numbers.
-pub(crate) fn number_of(place: usize) -> Result<ConstantId, Memory>
+pub fn number_of(place: usize) -> Result<ConstantId, Memory>
     ensures { IfOk result (λ n. n ≡ place) }
 {
     if place > 0xffff_ffff {
@@ -160,7 +156,7 @@ fn next_known(tree: &Module, flags: &[bool]) -> Result<bool, Memory>
 }
 
 /// Whether the names are known in each constant.
-pub(crate) fn known_flags(alloc: Global, tree: &Module) -> Result<List<bool>, Memory>
+pub fn known_flags(alloc: Global, tree: &Module) -> Result<List<bool>, Memory>
     ensures { IfOk result (AreFlags tree.now.names (names_known (seen tree.now))) }
 {
     let mut flags = List::new(alloc);

@@ -1,12 +1,22 @@
 //! The rules of a module as definitions, a plain test of them, and a module that keeps them.
 #![tactic(auto)]
 
+pub mod callees;
 pub mod checked;
-mod classes;
-mod constants;
+pub mod classes;
+pub mod constants;
+pub mod defining;
 pub mod fault;
-mod flags;
+pub mod flags;
+pub mod forms;
 pub mod given;
-mod paths;
-mod together;
-mod types;
+pub mod labels;
+pub mod meeting;
+pub mod operands;
+pub mod paths;
+pub mod tables;
+#[cfg(test)]
+mod tests;
+pub mod together;
+pub mod types;
+pub mod typing;

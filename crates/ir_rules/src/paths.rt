@@ -14,7 +14,7 @@ use ir_tree::table::Names;
 
 /// The fields of a struct, and whether it is packed.
 #[derive(Clone, Copy)]
-pub(crate) struct Fields<'a> {
+pub struct Fields<'a> {
     pub packed: bool,
     pub fields: &'a [TypeId],
 }
@@ -41,7 +41,7 @@ fn own_fields<'a>(names: &'a Names, of: TypeId) -> Option<Fields<'a>>
 }
 
 /// The fields of a struct, which may be named.
-pub(crate) fn fields_of<'a>(names: &'a Names, types: &[NamedType], of: TypeId) -> Option<Fields<'a>>
+pub fn fields_of<'a>(names: &'a Names, types: &[NamedType], of: TypeId) -> Option<Fields<'a>>
     ensures { shown_fields names.now result ≡ fields_of (named_types names.now types.now) (type_at names.now of) }
 {
     match head_of(names, of) {
@@ -108,7 +108,7 @@ fn walk_along(names: &Names, types: &[NamedType], of: TypeId, indices: &[Option<
 }
 
 /// Where all indices of a `getelementptr` lead. The first counts elements of the type itself.
-pub(crate) fn path(names: &Names, types: &[NamedType], of: TypeId, indices: &[Option<u64>]) -> Walk
+pub fn path(names: &Names, types: &[NamedType], of: TypeId, indices: &[Option<u64>]) -> Walk
     ensures { shown_walk names.now result ≡ path (named_types names.now types.now) (type_at names.now of) indices.now }
 {
     match indices {

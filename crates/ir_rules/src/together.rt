@@ -22,7 +22,7 @@ use pv_base::want::Memory;
 use std::alloc::Global;
 
 /// The number of an index that is a constant integer.
-pub(crate) fn constant_index(value: Option<&ConstantNode>) -> Option<u64>
+pub fn constant_index(value: Option<&ConstantNode>) -> Option<u64>
     ensures { (t : _) (k : ℕ) → result ≡ constant_index (node_constant t k (option_copied value.entry)) }
 {
     match value {
@@ -193,11 +193,7 @@ fn next_holds(
 }
 
 /// Whether each constant holds together.
-pub(crate) fn together_flags(
-    alloc: Global,
-    tree: &Module,
-    classes: &[usize],
-) -> Result<List<bool>, Memory>
+pub fn together_flags(alloc: Global, tree: &Module, classes: &[usize]) -> Result<List<bool>, Memory>
     requires { AreClasses tree.now.names classes.now }
     ensures { IfOk result (AreFlags tree.now.names (holds_together (seen tree.now))) }
 {

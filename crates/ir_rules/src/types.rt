@@ -12,7 +12,7 @@ use pv_base::name::Name;
 
 /// A type by its outermost level. A number that the table does not have stands for `ptr`.
 #[derive(Clone, Copy)]
-pub(crate) enum Head<'a> {
+pub enum Head<'a> {
     Int(u32),
     Pointer,
     Void,
@@ -21,7 +21,8 @@ pub(crate) enum Head<'a> {
     Named(NameId),
 }
 
-pub(crate) fn head_of<'a>(names: &'a Names, of: TypeId) -> Head<'a>
+/// The outermost level of the type of a number.
+pub fn head_of<'a>(names: &'a Names, of: TypeId) -> Head<'a>
     ensures { type_at names.now of ≡ head_type names.now result }
 {
     names.is_table();
@@ -43,7 +44,7 @@ pub(crate) fn head_of<'a>(names: &'a Names, of: TypeId) -> Head<'a>
 }
 
 /// Whether two names are spelled alike.
-pub(crate) fn spelled_alike(a: &Name, b: &Name) -> bool
+pub fn spelled_alike(a: &Name, b: &Name) -> bool
     ensures { result ≡ same_name a.now b.now }
 {
     a == b
@@ -81,13 +82,14 @@ fn name<'a>(names: &'a Names, number: NameId) -> Option<&'a Name>
 }
 
 /// Whether two numbers are of one name.
-pub(crate) fn same_name(names: &Names, a: NameId, b: NameId) -> bool
+pub fn same_name(names: &Names, a: NameId, b: NameId) -> bool
     ensures { result ≡ same_name (name_at names.now a) (name_at names.now b) }
 {
     alike(name(names, a), name(names, b))
 }
 
-pub(crate) fn is_pointer(names: &Names, of: TypeId) -> bool
+/// Whether the type is `ptr`.
+pub fn is_pointer(names: &Names, of: TypeId) -> bool
     ensures { result ≡ is_pointer (type_at names.now of) }
 {
     match head_of(names, of) {
@@ -96,7 +98,8 @@ pub(crate) fn is_pointer(names: &Names, of: TypeId) -> bool
     }
 }
 
-pub(crate) fn is_integer(names: &Names, of: TypeId) -> bool
+/// Whether the type is one of integers.
+pub fn is_integer(names: &Names, of: TypeId) -> bool
     ensures { result ≡ is_integer (type_at names.now of) }
 {
     match head_of(names, of) {
@@ -105,7 +108,8 @@ pub(crate) fn is_integer(names: &Names, of: TypeId) -> bool
     }
 }
 
-pub(crate) fn has_width(names: &Names, width: u32, of: TypeId) -> bool
+/// Whether the type is the one of integers of a width.
+pub fn has_width(names: &Names, width: u32, of: TypeId) -> bool
     ensures { result ≡ has_width width (type_at names.now of) }
 {
     match head_of(names, of) {
@@ -114,7 +118,8 @@ pub(crate) fn has_width(names: &Names, width: u32, of: TypeId) -> bool
     }
 }
 
-pub(crate) fn is_void(names: &Names, of: TypeId) -> bool
+/// Whether the type is `void`.
+pub fn is_void(names: &Names, of: TypeId) -> bool
     ensures { result ≡ is_void (type_at names.now of) }
 {
     match head_of(names, of) {
@@ -123,7 +128,8 @@ pub(crate) fn is_void(names: &Names, of: TypeId) -> bool
     }
 }
 
-pub(crate) fn is_struct(names: &Names, of: TypeId) -> bool
+/// Whether the type is a struct that is written out, and not a named one.
+pub fn is_struct(names: &Names, of: TypeId) -> bool
     ensures { result ≡ is_struct (type_at names.now of) }
 {
     match head_of(names, of) {
@@ -135,7 +141,8 @@ pub(crate) fn is_struct(names: &Names, of: TypeId) -> bool
     }
 }
 
-pub(crate) fn is_register(names: &Names, of: TypeId) -> bool
+/// Whether the type is one of registers: `iN` or `ptr`.
+pub fn is_register(names: &Names, of: TypeId) -> bool
     ensures { result ≡ is_register (type_at names.now of) }
 {
     match head_of(names, of) {
@@ -145,7 +152,8 @@ pub(crate) fn is_register(names: &Names, of: TypeId) -> bool
     }
 }
 
-pub(crate) fn is_answer(names: &Names, of: TypeId) -> bool
+/// Whether the type is one of registers, or `void`.
+pub fn is_answer(names: &Names, of: TypeId) -> bool
     ensures { result ≡ is_answer (type_at names.now of) }
 {
     match head_of(names, of) {
