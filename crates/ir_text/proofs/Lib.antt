@@ -19,3 +19,4 @@ pub mod Agreeing
 pub mod TypeFuel
 pub mod Looking
 pub mod NestedSteps
+pub mod NestedTurns

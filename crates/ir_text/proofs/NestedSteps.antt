@@ -14,7 +14,7 @@ use Rattle.ir_text.specs.Leaves.{mark_at}
 use Rattle.ir_text.specs.Repeated.{repeated, stays}
 use Rattle.ir_text.specs.Lists.{after_comma, listed_at, mark_for, filled_at, list_at}
 use Rattle.ir_text.specs.Types.{Known, header_at, simple, type_rule, type_at}
-use Rattle.ir_text.specs.Nested.{array_end, fields_behind, braces, struct_end, closing, resume}
+use Rattle.ir_text.specs.Nested.{fields_rule, array_end, fields_behind, braces, struct_end, closing, resume}
 use Rattle.ir_text.proofs.Agreeing.{comma_less}
 use Rattle.ir_text.proofs.RepeatedLaws.{repeated_is}
 use Rattle.ir_text.proofs.TypeFuel.{type_is, type_none, at_less}
@@ -135,3 +135,12 @@ module _ (known : Known) where
     pub opens_simple : is_mark 91 t ≡ false → is_mark 123 t ≡ false → is_mark 60 t ≡ false → type_at known ts ≡ meant (simple known t) t rest
     unfolding type_rule
     opens_simple a s p = opens ∙ rw (a, s, p) refl
+
+  -- a struct with no field, and one with fields
+  pub fields_shut : (packed : Bool) (ts : List TokenV) → sees 125 ts ≡ true → fields_rule known packed ts ≡ braces known packed [] ts
+  fields_shut false ts close = rw (fields_none ts close, eaten 125 ts close) refl
+  fields_shut true ts close = rw (fields_none ts close, eaten 125 ts close) refl
+
+  pub fields_open : (packed : Bool) (ts : List TokenV) → sees 125 ts ≡ false → fields_rule known packed ts ≡ (type_at known ts >>= struct_end known packed [])
+  fields_open false ts close = plain_fields ts close
+  fields_open true ts close = packed_fields ts close

@@ -11,7 +11,7 @@ use Rattle.ir_text.specs.Tokens.{TokenV, is_mark}
 use Rattle.ir_text.specs.Reading.{Outcome, Reader, ◌>>=◌, Fails}
 use Rattle.ir_text.specs.Leaves.{mark_at}
 use Rattle.ir_text.specs.Repeated.{repeated}
-use Rattle.ir_text.specs.Lists.{after_comma}
+use Rattle.ir_text.specs.Lists.{after_comma, list_at}
 use Rattle.ir_text.specs.Types.{Known, type_at}
 
 module _ (known : Known) where
@@ -26,6 +26,11 @@ module _ (known : Known) where
   abbrev pub braces : Bool → List TypeV → Reader TypeV
   braces false fields ts = mark_at 125 ts >>= λ close. Ok (StructV false (listed fields), close.1)
   braces true fields ts = mark_at 125 ts >>= λ close. mark_at 62 close.1 >>= λ end. Ok (StructV true (listed fields), end.1)
+
+  -- a struct behind its brace
+  abbrev pub fields_rule : Bool → Reader TypeV
+  fields_rule false ts = list_at 125 (type_at known) ts >>= λ fields. Ok (StructV false (listed fields.0), fields.1)
+  fields_rule true ts = list_at 125 (type_at known) ts >>= λ fields. mark_at 62 fields.1 >>= λ close. Ok (StructV true (listed fields.0), close.1)
 
   -- behind a field that follows these
   unfoldable pub struct_end : Bool → List TypeV → TypeV × List TokenV → Outcome TypeV
