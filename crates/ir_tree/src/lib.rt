@@ -5,6 +5,7 @@ pub mod checked;
 pub mod fields;
 pub mod instruction;
 pub mod items;
+pub mod lawful;
 pub mod layout;
 pub mod layouts;
 pub mod names;

@@ -1,6 +1,6 @@
 -- Cutting a text at its front, and at the first byte of a value.
 use Rattle.std.proofs.Common.{◌≡◌, ◌+◌, ◌<◌, ◌≤◌, ◌==◌, ◌&&◌, ◌++◌, ℕ, zero, suc, List, [], ◌∷◌, length, take, drop, get_or, Option, Some, None, Bool, true, false, not, refl, arith, sym, ap, ◌∙◌, if◌then◌else◌, append_assoc, take-append-drop, length-append, eq-eqb}
-use Rattle.std.specs.Prelude.{nat_eq}
+use Rattle.std.specs.Prelude.{nat_eq, option_and_then, option_map}
 use Rattle.std.specs.List.{starts_with, before_first, after_first, position_or_len, prefix_len, list_all}
 use Rattle.std.specs.Str.{bytes_eq}
 use Rattle.std.proofs.lemmas.Slice.Eq.{bytes_eq-Decides}
@@ -15,6 +15,14 @@ if_some false x y e = absurd (cc)
 pub if_some_then : {X : Type 0} (b : Bool) (o : Option X) (y : X) → (if b then o else None) ≡ Some y → (b ≡ true) × (o ≡ Some y)
 if_some_then true o y e = (refl, e)
 if_some_then false o y e = absurd (cc)
+
+pub chain_some : {X Y : Type 0} (f : X → Option Y) (o : Option X) (y : Y) → option_and_then f o ≡ Some y → (x : X) × (o ≡ Some x) × (f x ≡ Some y)
+chain_some f None y e = absurd (cc)
+chain_some f (Some x) y e = (x, refl, e)
+
+pub mapped_some : {X Y : Type 0} (f : X → Y) (o : Option X) (y : Y) → option_map f o ≡ Some y → (x : X) × (o ≡ Some x) × (f x ≡ y)
+mapped_some f None y e = absurd (cc)
+mapped_some f (Some x) y e = (x, refl, (cc))
 
 pub both : (a b : Bool) → a && b ≡ true → (a ≡ true) × (b ≡ true)
 both true b e = (refl, e)

@@ -5,7 +5,7 @@ use Rattle.pv_base.specs.Outside.{Text}
 use Rattle.ir_tree.specs.declared.tree.Module.{Module}
 use Rattle.privateer_core.specs.Texts.{are_texts}
 use Rattle.privateer_core.specs.Numbers.{number_within}
-use Rattle.privateer_core.specs.FirstText.{module_of}
+use Rattle.privateer_core.specs.FirstModule.{module_of}
 use Rattle.privateer_core.specs.Machine.{sequential_run}
 use Rattle.privateer_core.specs.Report.{report_text}
 use Rattle.privateer_core.specs.Answers.{refuses, with_file}

@@ -1,7 +1,10 @@
 pub mod Script
 pub mod Machine
+pub mod Effects
+pub mod Typing
 pub mod Numbers
 pub mod FirstText
+pub mod FirstModule
 pub mod Report
 pub mod Texts
 pub mod Answers

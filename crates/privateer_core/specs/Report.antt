@@ -9,13 +9,18 @@ use Rattle.pv_base.specs.declared.name.Name.TheVariants.{Named, Numbered}
 use Rattle.ir_tree.specs.declared.tree.Function.{Function}
 use Rattle.ir_tree.specs.declared.tree.Module.{Module}
 use Rattle.privateer_core.specs.declared.machine.Trap.{Trap}
-use Rattle.privateer_core.specs.declared.machine.Trap.TheVariants.{UnsetRegister}
+use Rattle.privateer_core.specs.declared.machine.Trap.TheVariants.{UnsetRegister, Overflow, Shift, Divide, Flag, Output}
 use Rattle.privateer_core.specs.declared.machine.End.{End}
 use Rattle.privateer_core.specs.declared.machine.End.TheVariants.{Ended, Trapped, Spent}
 use Rattle.privateer_core.specs.declared.machine.Outcome.{Outcome}
 
 abbrev pub trap_word : Trap → Text
 trap_word UnsetRegister = codes "unset-register"
+trap_word Overflow = codes "overflow"
+trap_word Shift = codes "shift"
+trap_word Divide = codes "divide"
+trap_word Flag = codes "flag"
+trap_word Output = codes "output"
 
 -- a name as the report spells it; no module of today's form has one that needs quotes
 abbrev pub name_text : Name → Text

@@ -1,24 +1,27 @@
 //! The reader of the first form of module text.
-ghost use Rattle.std.specs.Prelude.{◌≡◌, ◌==◌, ◌≢◌, ◌≤◌, length, ◌↔◌, ℕ, Option, None, Some, IfOk, Err, IfSome, IfNone, MatchOption, MatchResult, option_map, IsTrue};
-ghost use Rattle.std.specs.List.{before_first, after_first, position_or_len, list_all};
-ghost use Rattle.int_num.specs.Integer.{Integer};
-ghost use Rattle.privateer_core.specs.Numbers.{integer_of};
-ghost use Rattle.privateer_core.specs.FirstText.{after_front, begins_name, is_in_name, is_name, returned_integer, block_labelled, returning, block_of, main_module, module_of, block_shown, label_shown};
+ghost use Rattle.std.specs.Prelude.{◌≡◌, Err, None, Some, true, codes, IfOk, option_map};
+ghost use Rattle.privateer_core.specs.FirstText.{texts};
+ghost use Rattle.privateer_core.specs.FirstModule.{body_in, entry_name, first_label, function_behind, function_in, function_of, function_of_body, lawful_function, lines_behind, main_function, main_module, module_of, named_function};
+ghost use Rattle.ir_tree.specs.Rules.{is_lawful};
+ghost use Rattle.pv_base.specs.declared.name.Name.TheVariants.{Named};
 ghost use Rattle.privateer_core.specs.declared.first_text.FirstEnd.TheVariants.{Unbuilt};
 
-use crate::number::integer;
-use int_num::int::Int;
+pub mod blocks;
+pub mod lines;
+pub mod names;
+pub mod words;
+
+use crate::first_text::blocks::read_blocks;
+use crate::first_text::names::Names;
+use crate::first_text::words::{after_front, before_end, label_in, pieces};
 use ir_tree::checked::Checked;
-use ir_tree::tree::{Block, Function, Instruction, Module, Operand};
+use ir_tree::lawful::{has_room, is_lawful};
+use ir_tree::tree::{Block, Function, Module};
 use pv_base::bytes::Bytes;
 use pv_base::list::List;
 use pv_base::name::Name;
 use pv_base::want::Memory;
 use std::alloc::Global;
-
-const NAME_LIMIT: usize = 4096;
-
-const RETURN_OPENING: &[u8] = b"  ret i32 ";
 
 /// Why a text gave no module: it is none of the form, or want of memory.
 #[derive(Clone, Copy, Debug, PartialEq, Eq)]
@@ -37,156 +40,166 @@ impl From<Memory> for FirstEnd {
     }
 }
 
-/// What follows a front of the text, where that is one.
-fn after_front<'a>(front: &[u8], text: &'a [u8]) -> Option<&'a [u8]>
-    ensures { option_map (λ rest. rest.now) result ≡ after_front front.now text.entry.now }
+/// The label of the first block, where it is written.
+fn first_label<'a>(lines: &[&'a [u8]]) -> Option<&'a [u8]>
+    ensures { option_map (λ label. label.now) result ≡ first_label (texts lines.now) }
 {
-    if text.starts_with(front) {
-        Some(&text[front.len()..])
-    } else {
-        None
+    match lines.first() {
+        Some(line) => label_in(*line),
+        None => None,
     }
 }
 
-/// The place of the first byte of that value, or the length.
-fn place_of(byte: u8, text: &[u8]) -> usize
-    ensures place { result ≡ position_or_len (λ c. c == byte) text.now }
-    ensures within { result ≤ length text.now }
-{
-    for (i, c) in text.iter().enumerate() {
-        if *c == byte {
-            return i;
-        }
-    }
-    text.len()
-}
-
-/// The bytes before the first byte of that value, and those after it.
-fn split_at_byte<'a>(byte: u8, text: &'a [u8]) -> (&'a [u8], &'a [u8])
-    ensures before { result.0.now ≡ before_first (λ c. c == byte) text.entry.now }
-    ensures after { result.1.now ≡ after_first (λ c. c == byte) text.entry.now }
-{
-    let at = place_of(byte, text);
-    if at < text.len() {
-        (&text[..at], &text[at + 1..])
-    } else {
-        (text, &text[text.len()..])
-    }
-}
-
-fn begins_name(c: u8) -> bool
-    ensures { result ≡ begins_name c }
-{
-    c.is_ascii_lowercase()
-        || c.is_ascii_uppercase()
-        || c == b'-'
-        || c == b'$'
-        || c == b'.'
-        || c == b'_'
-}
-
-fn is_in_name(c: u8) -> bool
-    ensures { result ≡ is_in_name c }
-{
-    begins_name(c) || c.is_ascii_digit()
-}
-
-fn are_in_name(text: &[u8]) -> bool
-    ensures { result ≡ list_all is_in_name text.now }
-{
-    text.iter().all(|c| is_in_name(*c))
-}
-
-fn is_name(text: &[u8]) -> bool
-    ensures { result ≡ is_name text.now }
-{
-    match text {
-        [] => false,
-        [first, rest @ ..] => {
-            begins_name(*first) && are_in_name(rest) && text.len() <= NAME_LIMIT
-        }
-    }
-}
-
-/// The operand of a `ret` line up to the end of the text.
-fn returned_integer(rest: &[u8]) -> Option<Int>
-    ensures { result ≡ returned_integer rest.now }
-{
-    let (operand, tail) = split_at_byte(b'\n', rest);
-    if tail == b"}\n".as_slice() {
-        integer(32, operand)
-    } else {
-        None
-    }
-}
-
-/// The label of the block, none where it is left out, and what the block returns.
-fn block_parts<'a>(text: &'a [u8]) -> Option<(Option<&'a [u8]>, Int)>
-    ensures { option_map block_shown result ≡ block_of text.entry.now }
-{
-    if let Some(rest) = after_front(RETURN_OPENING, text) {
-        let value = returned_integer(rest)?;
-        return Some((None, value));
-    }
-    let (label, after) = split_at_byte(b':', text);
-    if !is_name(label) {
-        return None;
-    }
-    let line = after_front(b"\n", after)?;
-    let rest = after_front(RETURN_OPENING, line)?;
-    let value = returned_integer(rest)?;
-    Some((Some(label), value))
-}
-
-/// The module whose one function `main` has this block.
-fn built(alloc: Global, label: Name, value: Int) -> Result<Checked, Memory>
-    ensures { IfOk result (λ code. code ≡ main_module (returning label value)) }
-{
-    let mut instructions = List::new(alloc);
-    instructions.push(Instruction::Ret {
-        value: Operand::Integer(value),
-    })?;
-    let mut blocks = List::new(alloc);
-    blocks.push(Block {
-        label,
-        instructions,
-    })?;
-    let name = Name::Named(Bytes::from_slice(alloc, b"main")?);
-    let mut functions = List::new(alloc);
-    functions.push(Function { name, blocks })?;
-    Ok(Checked::seal(Module { functions }))
-}
-
-fn label_of(alloc: Global, label: Option<&[u8]>) -> Result<Name, Memory>
-    ensures { IfOk result (λ name. name ≡ label_shown label.entry) }
+/// The name of the entry block.
+fn entry_name(alloc: Global, label: Option<&[u8]>) -> Result<Name, Memory>
+    ensures { IfOk result (λ name. name ≡ entry_name (option_map (λ l. l.now) label.entry)) }
 {
     match label {
         None => Ok(Name::Numbered(0)),
-        Some(bytes) => {
-            let bytes = Bytes::from_slice(alloc, bytes)?;
-            Ok(Name::Named(bytes))
+        Some(label) => {
+            let label = Bytes::from_slice(alloc, label)?;
+            Ok(Name::Named(label))
         }
     }
 }
 
-/// The label and the integer of a text of the form.
-#[tactic(auto, unfolding(crate::specs::FirstText::module_of))]
-fn parts<'a>(text: &'a [u8]) -> Option<(Option<&'a [u8]>, Int)>
-    ensures { option_map (λ p. main_module (block_shown p)) result ≡ module_of text.entry.now }
+/// The lines behind a written label of the first block.
+fn lines_behind<'a, 'b>(labelled: bool, lines: &'b [&'a [u8]]) -> &'b [&'a [u8]]
+    ensures { texts result.now ≡ lines_behind labelled (texts lines.entry.now) }
 {
-    block_parts(after_front(b"define i32 @main() {\n", text)?)
+    if labelled && !lines.is_empty() {
+        &lines[1..]
+    } else {
+        lines
+    }
+}
+
+/// The function `main` of these blocks.
+fn main_function(alloc: Global, names: Names, blocks: List<Block>) -> Result<Function, Memory>
+    ensures { IfOk result (λ f. f ≡ main_function names blocks) }
+{
+    let name = Name::Named(Bytes::from_slice(alloc, b"main")?);
+    Ok(Function {
+        name,
+        registers: names.into_registers(),
+        blocks,
+    })
+}
+
+/// The function of these lines, whose first block has that label.
+fn named_function(
+    alloc: Global,
+    names: Names,
+    entry: Name,
+    lines: &[&[u8]],
+) -> Result<Option<Function>, Memory>
+    ensures { IfOk result (λ o. o ≡ named_function entry (texts lines.now) names) }
+{
+    match read_blocks(alloc, &names, entry, lines)? {
+        None => Ok(None),
+        Some(blocks) => {
+            let function = main_function(alloc, names, blocks)?;
+            Ok(Some(function))
+        }
+    }
+}
+
+/// The function of these lines, of which the first may be the label of the first block.
+fn function_of(
+    alloc: Global,
+    putchar: bool,
+    label: Option<&[u8]>,
+    lines: &[&[u8]],
+) -> Result<Option<Function>, Memory>
+    ensures { IfOk result (λ o. o ≡ function_of putchar (option_map (λ l. l.now) label.entry) (texts lines.now)) }
+{
+    let labelled = label.is_some();
+    let entry = entry_name(alloc, label)?;
+    let mut names = Names::new(alloc, putchar, labelled)?;
+    if !names.add_lines(alloc, lines)? {
+        return Ok(None);
+    }
+    named_function(alloc, names, entry, lines_behind(labelled, lines))
+}
+
+/// The function, where it keeps the rules. There are no numbers for more than 2^32 - 1 blocks, as for memory that is refused.
+fn lawful_function(function: Function) -> Result<Option<Function>, Memory>
+    ensures { IfOk result (λ o. o ≡ lawful_function function) }
+{
+    if function.blocks.len() > 0xffff_ffff {
+        return Err(Memory);
+    }
+    if is_lawful(&function) {
+        Ok(Some(function))
+    } else {
+        Ok(None)
+    }
+}
+
+/// The function of this body, where it is one that keeps the rules.
+fn function_of_body(alloc: Global, putchar: bool, body: &[u8]) -> Result<Option<Function>, Memory>
+    ensures { IfOk result (λ o. o ≡ function_of_body putchar body.now) }
+{
+    let lines = pieces(alloc, b'\n', body)?;
+    let lines = lines.as_slice();
+    match function_of(alloc, putchar, first_label(lines), lines)? {
+        None => Ok(None),
+        Some(function) => lawful_function(function),
+    }
+}
+
+/// What stands between the function's first line and its last.
+fn body_in<'a>(text: &'a [u8]) -> Option<&'a [u8]>
+    ensures { option_map (λ body. body.now) result ≡ body_in text.entry.now }
+{
+    let rest = after_front(b"define i32 @main() {\n", text)?;
+    before_end(b"\n}\n", rest)
+}
+
+/// The function behind the declaration.
+fn function_behind(alloc: Global, putchar: bool, text: &[u8]) -> Result<Option<Function>, Memory>
+    ensures { IfOk result (λ o. o ≡ function_behind putchar text.now) }
+{
+    match body_in(text) {
+        None => Ok(None),
+        Some(body) => function_of_body(alloc, putchar, body),
+    }
+}
+
+/// The function of the text.
+fn function_in(alloc: Global, text: &[u8]) -> Result<Option<Function>, Memory>
+    ensures { IfOk result (λ o. o ≡ function_in text.now) }
+{
+    match after_front(b"declare i32 @putchar(i32)\n", text) {
+        Some(rest) => function_behind(alloc, true, rest),
+        None => function_behind(alloc, false, text),
+    }
+}
+
+/// The module whose one function is this.
+fn built(alloc: Global, function: Function) -> Result<Checked, Memory>
+    requires lawful { is_lawful function ≡ true }
+    requires named { function.name ≡ Named (codes "main") }
+    ensures { IfOk result (λ code. code ≡ main_module function) }
+{
+    if !has_room(function.blocks.as_slice()) {
+        return Err(Memory);
+    }
+    let mut functions = List::new(alloc);
+    functions.push(function)?;
+    Ok(Checked::seal(Module { functions }))
 }
 
 /// Reads a module of the first form. `Unbuilt` comes exactly where the text is none of it.
+#[tactic(auto, unfolding(crate::specs::FirstModule::module_of))]
 pub fn read_first(alloc: Global, text: &[u8]) -> Result<Checked, FirstEnd>
     ensures read { IfOk result (λ code. module_of text.now ≡ Some code) }
     ensures unbuilt { result ≡ Err Unbuilt → module_of text.now ≡ None }
 {
-    match parts(text) {
+    match function_in(alloc, text)? {
         None => Err(FirstEnd::Unbuilt),
-        Some((label, value)) => {
-            let name = label_of(alloc, label)?;
-            let code = built(alloc, name, value)?;
+        Some(function) => {
+            let code = built(alloc, function)?;
             Ok(code)
         }
     }

@@ -3,6 +3,8 @@
 
 pub mod answer;
 pub mod commands;
+#[cfg(test)]
+mod first_tests;
 pub mod first_text;
 pub mod laws;
 pub mod machine;

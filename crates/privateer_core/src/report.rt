@@ -19,6 +19,11 @@ pub fn trap_word(trap: Trap) -> &'static [u8]
 {
     match trap {
         Trap::UnsetRegister => b"unset-register",
+        Trap::Overflow => b"overflow",
+        Trap::Shift => b"shift",
+        Trap::Divide => b"divide",
+        Trap::Flag => b"flag",
+        Trap::Output => b"output",
     }
 }
 

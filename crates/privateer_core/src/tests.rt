@@ -13,7 +13,7 @@ const RETURN_LEAST: &str = "define i32 @main() {\nentry.1:\n  ret i32 -214748364
 
 const RETURN_MOST: &str = "define i32 @main() {\n  ret i32 4294967295\n}\n";
 
-fn words_of(alloc: Global, words: &[&str]) -> Result<List<Bytes>, Memory> {
+pub(crate) fn words_of(alloc: Global, words: &[&str]) -> Result<List<Bytes>, Memory> {
     let mut list = List::new(alloc);
     for word in words {
         list.push(Bytes::from_slice(alloc, word.as_bytes())?)?;
@@ -21,7 +21,11 @@ fn words_of(alloc: Global, words: &[&str]) -> Result<List<Bytes>, Memory> {
     Ok(list)
 }
 
-fn files_of(alloc: Global, entries: &[(&str, &str)], large: &[&str]) -> Result<MemFiles, Memory> {
+pub(crate) fn files_of(
+    alloc: Global,
+    entries: &[(&str, &str)],
+    large: &[&str],
+) -> Result<MemFiles, Memory> {
     let mut list = List::new(alloc);
     for (name, content) in entries {
         let name = Bytes::from_slice(alloc, name.as_bytes())?;

@@ -1,5 +1,5 @@
 use Rattle.privateer_core.specs.Commands.{run_module}
-use Rattle.privateer_core.specs.FirstText.{module_of}
+use Rattle.privateer_core.specs.FirstModule.{module_of}
 use Rattle.privateer_core.proofs.FileLemmas.{refusal_answers}
 use Rattle.privateer_core.proofs.commands.run_command.Goals as goal
 
