@@ -1,6 +1,7 @@
 //! The ground of reading module text: tokens in hand, single tokens, what is passed over, types, constants and operands.
 #![tactic(auto)]
 
+pub mod constants;
 pub mod cursor;
 pub mod fault;
 pub mod leaves;
