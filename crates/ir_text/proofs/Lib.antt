@@ -21,3 +21,4 @@ pub mod Looking
 pub mod NestedSteps
 pub mod NestedTurns
 pub mod Widths
+pub mod OperandLaws

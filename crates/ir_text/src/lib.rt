@@ -8,6 +8,7 @@ pub mod leaves;
 pub mod named;
 pub mod names;
 pub mod nested;
+pub mod operands;
 pub mod passed;
 pub mod tails;
 pub mod types;
