@@ -20,3 +20,5 @@ pub mod TypeFuel
 pub mod Looking
 pub mod NestedSteps
 pub mod NestedTurns
+pub mod Widths
+pub mod OperandLaws

@@ -10,6 +10,8 @@ pub mod Trailing
 pub mod Types
 pub mod Named
 pub mod Nested
+pub mod Constants
+pub mod Operands
 pub mod TypeSpelled
 pub mod Spelled
 pub mod Lawful

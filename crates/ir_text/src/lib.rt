@@ -1,12 +1,14 @@
 //! The ground of reading module text: tokens in hand, single tokens, what is passed over, types, constants and operands.
 #![tactic(auto)]
 
+pub mod constants;
 pub mod cursor;
 pub mod fault;
 pub mod leaves;
 pub mod named;
 pub mod names;
 pub mod nested;
+pub mod operands;
 pub mod passed;
 pub mod tails;
 pub mod types;

@@ -1,0 +1,57 @@
+//! Operands at a type.
+
+ghost use Rattle.std.specs.Prelude.{◌≡◌, ◌<◌, ◌≤◌, length, IfOk, OnOk};
+ghost use Rattle.int_num.specs.Integer.{IsWidth};
+ghost use Rattle.ir_tree.specs.Table.{Table};
+ghost use Rattle.ir_tree.specs.Naming.{Grows, constant_at, type_at};
+ghost use Rattle.ir_tree.specs.Shown.{shown_operand, shown_argument};
+ghost use Rattle.ir_text.specs.Reading.{Reads, next_is};
+ghost use Rattle.ir_text.specs.Named.{known_of};
+ghost use Rattle.ir_text.specs.Operands as spec;
+
+use crate::constants::{simple_constant, width_of};
+use crate::cursor::Cursor;
+use crate::fault::{Fault, ReadEnd};
+use crate::leaves::bad;
+use crate::named::NamedTypes;
+use crate::names::number_of;
+use crate::types::register_type;
+use ir_lex::token::{Cause, TokenKind};
+use ir_tree::instruction::{Argument, Operand};
+use ir_tree::nodes::{ConstantId, TypeId};
+use ir_tree::table::Names;
+
+/// Reads a constant at a width. `known` are the named types of the whole text.
+#[tactic(auto, using(crate::proofs::Later::later), unfolding(crate::specs::Operands::constant_at, crate::specs::Reading::token_by))]
+pub fn read_constant(
+    cursor: &mut Cursor<'_>,
+    names: &mut Names,
+    known: &NamedTypes,
+    width: u32,
+) -> Result<ConstantId, ReadEnd>
+    requires { IsWidth width }
+    ensures reads { (later : Table) → Grows names.new later → Reads (constant_at later) cursor.new result (spec.constant_at (known_of later known.now) width cursor.old) }
+    ensures within { IfOk result (λ k. k < length names.new.constants) }
+    ensures grows { Grows names.old names.new }
+    ensures shorter { OnOk result (length cursor.new < length cursor.old) }
+{
+    let _ = known;
+    match cursor.next() {
+        None => Err(ReadEnd::Bad(Fault::Ended)),
+        Some(lexeme) => simple_constant(cursor, names, &lexeme, width),
+    }
+}
+
+/// Whether a register comes next.
+#[tactic(auto, unfolding(crate::specs::Reading::next_is))]
+pub fn sees_local(cursor: &Cursor<'_>) -> bool
+    ensures { result ≡ next_is spec.is_local cursor.now }
+{
+    match cursor.peek() {
+        None => false,
+        Some(lexeme) => match lexeme.kind() {
+            TokenKind::LocalName => true,
+            _ => false,
+        },
+    }
+}
