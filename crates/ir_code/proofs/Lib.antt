@@ -9,3 +9,6 @@ pub mod Switching
 pub mod Arms
 pub mod Growing
 pub mod Looking
+pub mod Filtering
+pub mod Opening
+pub mod Assembling

@@ -1,5 +1,5 @@
 -- The registers, edges and blocks of a function.
-use Rattle.std.specs.Prelude.{ℕ, ◌+◌, List, [], ◌∷◌, ◌++◌, length, map, fold, drop, find, nat_eq, Bool, true, false, Option, Some, None, option_map, unwrap_or, is_some, slice_index_or, position, if◌then◌else◌}
+use Rattle.std.specs.Prelude.{ℕ, ◌+◌, List, [], ◌∷◌, ◌++◌, length, map, fold, drop, replicate, find, nat_eq, Bool, true, false, Option, Some, None, option_map, unwrap_or, is_some, slice_index_or, position, if◌then◌else◌}
 use Rattle.std.specs.List.{filter_map, flat_map}
 use Rattle.std.specs.Option.{option_map_or}
 use Rattle.ir_tree.specs.declared.instruction.Operand.{Operand as Named}
@@ -10,6 +10,7 @@ use Rattle.ir_tree.specs.declared.items.Param.{Param}
 use Rattle.ir_tree.specs.declared.items.Block.{Block}
 use Rattle.ir_tree.specs.declared.items.Function.{Function}
 use Rattle.ir_tree.specs.Modules.{Items}
+use Rattle.ir_code.specs.declared.registers.Register.{Register}
 use Rattle.ir_code.specs.declared.op.Scalar.{Scalar}
 use Rattle.ir_code.specs.declared.op.Scalar.TheVariants as scalar
 use Rattle.ir_code.specs.declared.op.Op.{Op}
@@ -23,11 +24,6 @@ use Rattle.ir_code.specs.Exits.{Leading}
 use Rattle.ir_code.specs.Tables.{Tables, scalar_at, scalar_or_pointer}
 use Rattle.ir_code.specs.Families.{operand_at, binary, cast, freeze, compare, select, alloca, load, store, call, return_of, jump, branch, switch}
 use Rattle.ir_code.specs.Addresses.{address}
-
--- a register: its name, which a parameter of a declaration may lack, and its type
-pub record Register : Type 0 where
-  pub name : Option ℕ
-  pub of : Scalar
 
 -- the register that an instruction gives a value
 abbrev pub result_of : Tables → Instruction ℕ ℕ ℕ → Option Register
@@ -176,7 +172,7 @@ module _ (m : Items) (t : Tables) (s : Scope) where
   abbrev pub ops_of : Leading → List (Instruction ℕ ℕ ℕ) → List Op
   ops_of exits instructions =
       let joins = joins_of instructions in
-      map (λ j. op.Phi) joins ++ map (op_of (exit_at s.labels exits.targets exits.first)) (drop (length joins) instructions)
+      replicate (length joins) op.Phi ++ map (op_of (exit_at s.labels exits.targets exits.first)) (drop (length joins) instructions)
 
   -- a block whose first instruction and first edge have these numbers
   abbrev pub block_of : ℕ → ℕ → Block ℕ ℕ ℕ → BlockCode

@@ -1,27 +1,43 @@
 -- A module with its names resolved.
-use Rattle.std.specs.Prelude.{ℕ, List, [], map, Option, Some, option_map, option_and_then, position, length, slice_get, slice_index_or, codes}
-use Rattle.std.specs.List.{flat_map, enumerate_from}
+use Rattle.std.specs.Prelude.{ℕ, List, map, Bool, false, Option, Some, None, option_map, position, length, codes, if◌then◌else◌}
+use Rattle.std.specs.List.{flat_map, range_with_len}
 use Rattle.pv_base.specs.Outside.{Text}
 use Rattle.ir_tree.specs.declared.items.Function.{Function}
 use Rattle.ir_tree.specs.declared.items.Block.{Block}
 use Rattle.ir_tree.specs.Table.{Table}
 use Rattle.ir_tree.specs.Modules.{Items, layout_in}
-use Rattle.ir_tree.specs.Naming.{name_at}
+use Rattle.ir_tree.specs.Trees.{PtrV, ConstantV, IntegerC, NullC, ZeroC, TextC, ArrayC, StructC, NameC, AddressC}
+use Rattle.ir_tree.specs.Naming.{name_at, constant_at}
 use Rattle.ir_tree.specs.Rules.{is_named}
 use Rattle.ir_code.specs.declared.code.FunctionCode.{FunctionCode}
 use Rattle.ir_code.specs.declared.code.Code.{Code}
-use Rattle.ir_code.specs.declared.lookups.Linkage.{Linkage}
-use Rattle.ir_code.specs.declared.lookups.Linkage.TheVariants as linkage
 use Rattle.ir_code.specs.declared.lookups.Constant.{Constant}
+use Rattle.ir_code.specs.declared.lookups.Constant.TheVariants as constant
+use Rattle.ir_code.specs.Fixed.{fixed_of}
 use Rattle.ir_code.specs.Tables.{Tables, scalar_of, scalar_at, scalar_or_pointer, linkage_of, external_of}
 use Rattle.ir_code.specs.Blocks.{Scope, registers_of, joins_of, edges_of, blocks_from}
 
--- what is found once of a module, with what is found of its constants
-abbrev pub tables_of : List (Option Constant) → Items → Tables
-tables_of constants m = record {
+-- a constant: only the value of `zeroinitializer` rests on its type, so that each other is taken at `ptr`
+abbrev pub constant_of : Items → ConstantV → Option Constant
+constant_of m (IntegerC n) = option_map constant.Is (fixed_of m PtrV (IntegerC n))
+constant_of m NullC = option_map constant.Is (fixed_of m PtrV NullC)
+constant_of m ZeroC = Some constant.Zero
+constant_of m (TextC bytes) = None
+constant_of m (ArrayC elements) = None
+constant_of m (StructC packed elements) = None
+constant_of m (NameC name) = option_map constant.Is (fixed_of m PtrV (NameC name))
+constant_of m (AddressC of base indices) = option_map constant.Is (fixed_of m PtrV (AddressC of base indices))
+
+-- the size of the type of a number
+abbrev pub size_in : Items → ℕ → Option ℕ
+size_in m of = option_map (λ l. l.size) (layout_in m of)
+
+-- what is found once of a module
+abbrev pub tables_of : Items → Tables
+tables_of m = record {
   scalars = map scalar_of m.names.types;
-  sizes = map (λ p. option_map (λ l. l.size) (layout_in m p.0)) (enumerate_from 0 m.names.types);
-  constants = constants;
+  sizes = map (size_in m) (range_with_len 0 (length m.names.types));
+  constants = map (λ k. constant_of m (constant_at m.names k)) (range_with_len 0 (length m.names.constants));
   functions = map (λ f. Some f.name) m.functions;
   linkages = map (linkage_of m.names) m.functions;
 }
@@ -47,3 +63,14 @@ function_of m t f =
       external = external_of (linkage_of m.names f);
       declared = f.declared;
     }
+
+-- a definition of `main`
+abbrev pub is_main : Table → Function ℕ ℕ ℕ → Bool
+is_main t f = if f.declared then false else is_named (codes "main") (name_at t f.name)
+
+-- a module with its names resolved: its functions in text order, and the first definition of `main`
+unfoldable pub code_of : Items → Code
+code_of m = record {
+  functions = map (function_of m (tables_of m)) m.functions;
+  main = position (is_main m.names) m.functions;
+}

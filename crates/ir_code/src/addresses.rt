@@ -25,8 +25,8 @@ pub(crate) fn address(
     base: Named,
     indices: &[Argument],
 ) -> Result<Option<Op>, Memory>
-    requires { length lookups.now.sizes ≡ length module.now.names.types }
-    ensures { IfOk result (λ r. r ≡ address module.now lookups.now registers.now to inbounds of base indices.now) }
+    requires { length lookups.now.sizes ≡ length «module».now.names.types }
+    ensures { IfOk result (λ r. r ≡ address «module».now lookups.now registers.now to inbounds of base indices.now) }
 {
     let to = match registers.place(to) {
         Some(to) => to,
