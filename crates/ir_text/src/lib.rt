@@ -10,5 +10,6 @@ pub mod names;
 pub mod nested;
 pub mod operands;
 pub mod passed;
+pub mod promises;
 pub mod tails;
 pub mod types;
