@@ -12,4 +12,6 @@ pub mod operands;
 pub mod passed;
 pub mod promises;
 pub mod tails;
+#[cfg(test)]
+mod tests;
 pub mod types;
