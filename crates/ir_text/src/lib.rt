@@ -10,5 +10,8 @@ pub mod names;
 pub mod nested;
 pub mod operands;
 pub mod passed;
+pub mod promises;
 pub mod tails;
+#[cfg(test)]
+mod tests;
 pub mod types;
