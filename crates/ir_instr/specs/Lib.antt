@@ -1,0 +1,13 @@
+pub mod Words
+pub mod Parts
+pub mod Flags
+pub mod Arithmetic
+pub mod Casts
+pub mod Comparing
+pub mod Selecting
+pub mod Memory
+pub mod Addresses
+pub mod Calls
+pub mod Control
+pub mod Instructions
+pub mod InstructionSpelled

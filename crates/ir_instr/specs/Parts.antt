@@ -1,0 +1,110 @@
+-- The parts of which instructions are made: operands and types. What a constant of a type is, is given.
+use Rattle.std.specs.Prelude.{Bool, true, false, nat_eq, if◌then◌else◌, [], ◌∷◌, Option, None, is_some, option_and_then, Result, Ok, Err, codes}
+use Rattle.pv_base.specs.declared.name.Name.{Name}
+use Rattle.ir_lex.specs.declared.token.TokenKind.{TokenKind}
+use Rattle.ir_lex.specs.declared.token.TokenKind.TheVariants as kind
+use Rattle.ir_lex.specs.declared.token.Cause.{Cause}
+use Rattle.ir_lex.specs.declared.token.Cause.TheVariants as causes
+use Rattle.ir_tree.specs.declared.instruction.Operand.{Operand}
+use Rattle.ir_tree.specs.declared.instruction.Operand.TheVariants as operand
+use Rattle.ir_tree.specs.declared.instruction.Argument.{Argument}
+use Rattle.ir_tree.specs.declared.layout.Layout.{Layout}
+use Rattle.ir_tree.specs.Layouts.{layout_with}
+use Rattle.ir_tree.specs.Trees.{TypeV, IntV, PtrV, ConstantV}
+use Rattle.ir_text.specs.declared.fault.Fault.TheVariants.{Ended}
+use Rattle.ir_text.specs.Tokens.{TokenV}
+use Rattle.ir_text.specs.Reading.{Reader, ◌>>=◌, wrong, Meaning, token_by}
+use Rattle.ir_text.specs.Choice.{choose}
+use Rattle.ir_text.specs.Leaves.{word_at, local_at}
+use Rattle.ir_text.specs.Types.{Known, register_type, type_at}
+
+-- ---- types of one token
+
+-- the same type of a register
+abbrev pub same_register : TypeV → TypeV → Bool
+same_register (IntV v) (IntV w) = nat_eq v w
+same_register PtrV PtrV = true
+same_register a b = false
+
+abbrev pub that_type : TypeV → Result TypeV Cause → Result (Unit {0}) Cause
+that_type of (Ok found) = if same_register of found then Ok tt else Err causes.Operand
+that_type of (Err cause) = Err cause
+
+-- the type that the form or an earlier type fixes: another type of a register is no operand
+abbrev pub fixed_type : TypeV → Meaning (Unit {0})
+fixed_type of t = that_type of (register_type t)
+
+abbrev pub integer_only : Result TypeV Cause → Result TypeV Cause
+integer_only (Ok (IntV w)) = Ok (IntV w)
+integer_only (Ok other) = Err causes.Operand
+integer_only (Err cause) = Err cause
+
+-- the type of an integer: ptr is no operand
+abbrev pub integer_type : Meaning TypeV
+integer_type t = integer_only (register_type t)
+
+-- no name has a layout, since a register's type has none in it
+abbrev pub no_names : Name → Option Layout
+no_names name = None
+
+abbrev pub with_layout : Result TypeV Cause → Result TypeV Cause
+with_layout (Ok of) = if is_some (layout_with no_names of) then Ok of else Err causes.Layout
+with_layout (Err cause) = Err cause
+
+-- the type of a register that memory can hold
+abbrev pub stored_type : Meaning TypeV
+stored_type t = with_layout (register_type t)
+
+-- ---- types in memory
+
+-- the layouts of the named types of the whole text
+abbrev pub named_layouts : Known → Name → Option Layout
+named_layouts known name = option_and_then (λ b. b.layout) (known name)
+
+abbrev pub has_layout : Known → TypeV → Bool
+has_layout known of = is_some (layout_with (named_layouts known) of)
+
+-- a type with a layout, which is else missed at the first token
+unfoldable pub memory_type_at : Known → Reader TypeV
+memory_type_at known [] = Err Ended
+memory_type_at known (t ∷ rest) = type_at known (t ∷ rest) >>= λ x. if has_layout known x.0 then Ok x else wrong t causes.Layout
+
+-- ---- operands
+
+abbrev pub kind_is_local : TokenKind → Bool
+kind_is_local kind.LocalName = true
+kind_is_local _ = false
+
+abbrev pub is_local : TokenV → Bool
+is_local t = kind_is_local t.kind
+
+-- %name
+abbrev pub register_at : Reader (Operand Name ConstantV)
+register_at ts = local_at ts >>= λ name. Ok (operand.Register name.0, name.1)
+
+-- label %name
+abbrev pub target_at : Reader Name
+target_at ts = do
+  label ← word_at (codes "label") ts
+  local_at label.1
+
+module _ (constant_at : TypeV → Reader ConstantV) where
+  abbrev pub constant_operand : TypeV → Reader (Operand Name ConstantV)
+  constant_operand of ts = constant_at of ts >>= λ value. Ok (operand.Constant value.0, value.1)
+
+  -- a register, or a constant of the type
+  abbrev pub operand_at : TypeV → Reader (Operand Name ConstantV)
+  operand_at of = choose is_local register_at (constant_operand of)
+
+  -- ptr P
+  abbrev pub pointer_at : Reader (Operand Name ConstantV)
+  pointer_at ts = do
+    type ← token_by (fixed_type PtrV) ts
+    operand_at PtrV type.1
+
+  -- iN A
+  abbrev pub integer_argument_at : Reader (Argument Name TypeV ConstantV)
+  integer_argument_at ts = do
+    of ← token_by integer_type ts
+    value ← operand_at of.0 of.1
+    Ok (record { of = of.0; value = value.0 }, value.1)

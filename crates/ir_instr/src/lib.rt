@@ -1,0 +1,2 @@
+//! Instructions of module text.
+#![tactic(auto)]
