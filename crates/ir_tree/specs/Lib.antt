@@ -1,4 +1,3 @@
-pub mod Rules
 pub mod Table
 pub mod Trees
 pub mod Naming

@@ -1,6 +1,6 @@
 -- The loops over the phis of an edge.
 use Rattle.std.proofs.Common.{◌≡◌, ℕ, zero, suc, ◌+◌, ◌<◌, List, [], ◌∷◌, ◌++◌, length, get_or, take, drop, Result, Ok, Err, Option, Some, slice_set, refl, sym, ◌∙◌, ap, arith, append_assoc, drop-cons, add-one}
-use Rattle.ir_tree.specs.declared.tree.Phi.{Phi}
+use Rattle.first_tree.specs.declared.tree.Phi.{Phi}
 use Rattle.privateer_core.specs.declared.machine.Trap.{Trap as TrapWord}
 use Rattle.privateer_core.specs.declared.machine.Value.{Value}
 use Rattle.privateer_core.specs.declared.machine.Frame.{Frame}

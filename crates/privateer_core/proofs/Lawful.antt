@@ -4,8 +4,8 @@ use Rattle.std.specs.Prelude.{codes, is_some, option_and_then, option_map}
 use Rattle.pv_base.specs.Outside.{Text}
 use Rattle.pv_base.specs.declared.name.Name.{Name}
 use Rattle.pv_base.specs.declared.name.Name.TheVariants.{Named}
-use Rattle.ir_tree.specs.declared.tree.Function.{Function}
-use Rattle.ir_tree.specs.Rules.{is_lawful}
+use Rattle.first_tree.specs.declared.tree.Function.{Function}
+use Rattle.first_tree.specs.Rules.{is_lawful}
 use Rattle.privateer_core.specs.FirstText.{Names, after_front, pieces, with_lines, first_names}
 use Rattle.privateer_core.specs.FirstModule.{blocks_of, body_in, declaration, either_function, empty_block, entry_name, first_label, function_behind, function_in, function_of, function_of_body, lawful_function, lines_behind, main_function, named_function}
 use Rattle.privateer_core.proofs.Pieces.{chain_some, if_some, mapped_some}

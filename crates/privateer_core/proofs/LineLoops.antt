@@ -3,8 +3,8 @@ use Rattle.std.proofs.Common.{◌≡◌, ◌+◌, ◌-◌, ◌*◌, ◌<◌, ◌
 use Rattle.std.specs.Prelude.{option_and_then, option_map}
 use Rattle.std.proofs.lemmas.Bool.Decides.{nat_tests}
 use Rattle.pv_base.specs.Outside.{Text}
-use Rattle.ir_tree.specs.declared.tree.Arm.{Arm}
-use Rattle.ir_tree.specs.declared.tree.Block.{Block}
+use Rattle.first_tree.specs.declared.tree.Arm.{Arm}
+use Rattle.first_tree.specs.declared.tree.Block.{Block}
 use Rattle.privateer_core.specs.declared.first_text.lines.Line.{Line}
 use Rattle.privateer_core.specs.FirstText.{AddsArm, Names, arm_at, arms_at, line_in, texts}
 use Rattle.privateer_core.specs.FirstModule.{Adds, added, blocks_of}

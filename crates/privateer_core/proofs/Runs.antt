@@ -3,7 +3,7 @@ use Rattle.std.proofs.Common.{◌≡◌, ◌+◌, ◌<◌, ℕ, zero, suc, refl,
 use Rattle.pv_base.specs.Outside.{Text}
 use Rattle.pv_base.specs.declared.place.Site.{Site}
 use Rattle.int_num.specs.Integer.{Integer}
-use Rattle.ir_tree.specs.declared.tree.Module.{Module}
+use Rattle.first_tree.specs.declared.tree.Module.{Module}
 use Rattle.privateer_core.specs.declared.machine.Trap.{Trap as TrapWord}
 use Rattle.privateer_core.specs.declared.machine.State.{State}
 use Rattle.privateer_core.specs.declared.machine.Step.TheVariants.{Next, Ended as StepEnded, Trap as StepTrap}

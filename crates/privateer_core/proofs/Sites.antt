@@ -4,11 +4,11 @@ use Rattle.std.proofs.lemmas.List.Sums.{sum_by_more_le}
 use Rattle.std.proofs.lemmas.List.Elements.{All-get_or}
 use Rattle.std.proofs.lemmas.Option.{get_or_from_slice_get, slice_get_within}
 use Rattle.std.specs.Prelude.{All}
-use Rattle.ir_tree.specs.declared.tree.Block.{Block}
-use Rattle.ir_tree.specs.declared.tree.Instruction.{Instruction}
-use Rattle.ir_tree.specs.declared.tree.Function.{Function}
-use Rattle.ir_tree.specs.declared.tree.Module.{Module}
-use Rattle.ir_tree.specs.Rules.{IsChecked, IsDefined, block_size, instruction_count}
+use Rattle.first_tree.specs.declared.tree.Block.{Block}
+use Rattle.first_tree.specs.declared.tree.Instruction.{Instruction}
+use Rattle.first_tree.specs.declared.tree.Function.{Function}
+use Rattle.first_tree.specs.declared.tree.Module.{Module}
+use Rattle.first_tree.specs.Rules.{IsChecked, IsDefined, block_size, instruction_count}
 use Rattle.privateer_core.specs.declared.machine.Frame.{Frame}
 use Rattle.privateer_core.specs.Machine.{FrameOf, blocks_of, frame_instructions, function_blocks, instructions_of}
 

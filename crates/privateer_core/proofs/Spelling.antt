@@ -6,9 +6,9 @@ use Rattle.std.specs.Str.{bytes_eq}
 use Rattle.std.proofs.lemmas.Slice.Eq.{bytes_eq-Decides}
 use Rattle.std.proofs.lemmas.List.Splits.{join_with_byte-slice_split}
 use Rattle.pv_base.specs.Outside.{Text}
-use Rattle.ir_tree.specs.declared.tree.Function.{Function}
-use Rattle.ir_tree.specs.declared.tree.Module.{Module}
-use Rattle.ir_tree.specs.Rules.{is_lawful}
+use Rattle.first_tree.specs.declared.tree.Function.{Function}
+use Rattle.first_tree.specs.declared.tree.Module.{Module}
+use Rattle.first_tree.specs.Rules.{is_lawful}
 use Rattle.privateer_core.specs.FirstText.{after_front, before_end, pieces}
 use Rattle.privateer_core.specs.FirstModule.{IsSpelled, Spells, body_in, closing, declaration, declared, either_function, first_label, function_behind, function_in, function_of, function_of_body, is_whole, lawful_function, main_module, module_of, opening}
 use Rattle.privateer_core.proofs.Pieces.{both, bytes_same, chain_some, front_is, front_of, if_some, mapped_some}

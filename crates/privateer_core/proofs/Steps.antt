@@ -12,16 +12,16 @@ use Rattle.int_num.specs.declared.ops.BinOp.{BinOp}
 use Rattle.int_num.specs.declared.ops.Flags.{Flags}
 use Rattle.int_num.specs.declared.ops.Pred.{Pred}
 use Rattle.int_num.specs.declared.ops.Poison.{Poison}
-use Rattle.ir_tree.specs.declared.tree.Operand.{Operand}
-use Rattle.ir_tree.specs.declared.tree.Arm.{Arm}
-use Rattle.ir_tree.specs.declared.tree.Phi.{Phi}
-use Rattle.ir_tree.specs.declared.tree.Block.{Block}
-use Rattle.ir_tree.specs.declared.tree.Register.{Register}
-use Rattle.ir_tree.specs.declared.tree.Instruction.{Instruction}
-use Rattle.ir_tree.specs.declared.tree.Instruction.TheVariants.{Binary, Compare, Putchar, Jump, Branch, Ret}
-use Rattle.ir_tree.specs.declared.tree.Function.{Function}
-use Rattle.ir_tree.specs.declared.tree.Module.{Module}
-use Rattle.ir_tree.specs.Rules.{IsChecked, IsDefined, is_ended, is_named, is_of, is_result, is_sound_block, is_target, is_terminator, is_typed, is_typed_phi, is_wide, main_of}
+use Rattle.first_tree.specs.declared.tree.Operand.{Operand}
+use Rattle.first_tree.specs.declared.tree.Arm.{Arm}
+use Rattle.first_tree.specs.declared.tree.Phi.{Phi}
+use Rattle.first_tree.specs.declared.tree.Block.{Block}
+use Rattle.first_tree.specs.declared.tree.Register.{Register}
+use Rattle.first_tree.specs.declared.tree.Instruction.{Instruction}
+use Rattle.first_tree.specs.declared.tree.Instruction.TheVariants.{Binary, Compare, Putchar, Jump, Branch, Ret}
+use Rattle.first_tree.specs.declared.tree.Function.{Function}
+use Rattle.first_tree.specs.declared.tree.Module.{Module}
+use Rattle.first_tree.specs.Rules.{IsChecked, IsDefined, is_ended, is_named, is_of, is_result, is_sound_block, is_target, is_terminator, is_typed, is_typed_phi, is_wide, main_of}
 use Rattle.privateer_core.specs.declared.machine.Trap.{Trap as TrapWord}
 use Rattle.privateer_core.specs.declared.machine.Trap.TheVariants.{Output}
 use Rattle.privateer_core.specs.declared.machine.Effect.{Effect as Computed}

@@ -9,10 +9,10 @@ use Rattle.int_num.specs.declared.ops.BinOp.TheVariants.{Add, Sub, Mul, Udiv, Sd
 use Rattle.int_num.specs.declared.ops.Flags.{Flags}
 use Rattle.int_num.specs.declared.ops.Poison.{Poison}
 use Rattle.int_num.specs.declared.ops.Poison.TheVariants as poison
-use Rattle.ir_tree.specs.declared.tree.Operand.{Operand}
-use Rattle.ir_tree.specs.declared.tree.Operand.TheVariants.{Integer as IntegerOperand, Register as RegisterOperand}
-use Rattle.ir_tree.specs.declared.tree.Register.{Register}
-use Rattle.ir_tree.specs.Rules.{is_of, is_wide}
+use Rattle.first_tree.specs.declared.tree.Operand.{Operand}
+use Rattle.first_tree.specs.declared.tree.Operand.TheVariants.{Integer as IntegerOperand, Register as RegisterOperand}
+use Rattle.first_tree.specs.declared.tree.Register.{Register}
+use Rattle.first_tree.specs.Rules.{is_of, is_wide}
 use Rattle.privateer_core.specs.declared.machine.Value.{Value}
 use Rattle.privateer_core.specs.declared.machine.Frame.{Frame}
 use Rattle.privateer_core.specs.Machine.{HoldFor, HoldsFor, integer, integer_in, register, of_value}

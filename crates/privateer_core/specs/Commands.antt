@@ -2,7 +2,7 @@
 use Rattle.std.specs.Prelude.{◌≡◌, ◌&&◌, ◌++◌, ℕ, List, [], ◌∷◌, Option, Some, None, codes, if◌then◌else◌, ⊤}
 use Rattle.std.specs.Str.{bytes_eq}
 use Rattle.pv_base.specs.Outside.{Text}
-use Rattle.ir_tree.specs.declared.tree.Module.{Module}
+use Rattle.first_tree.specs.declared.tree.Module.{Module}
 use Rattle.privateer_core.specs.Texts.{are_texts}
 use Rattle.privateer_core.specs.Numbers.{number_within}
 use Rattle.privateer_core.specs.FirstModule.{module_of}

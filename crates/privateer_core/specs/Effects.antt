@@ -5,7 +5,7 @@ use Rattle.privateer_core.specs.declared.machine.Effect.{Effect as Computed}
 use Rattle.privateer_core.specs.declared.machine.Fault.{Fault}
 use Rattle.privateer_core.specs.declared.machine.Fault.TheVariants.{Trap, Memory}
 use Rattle.int_num.specs.Integer.{Integer}
-use Rattle.ir_tree.specs.declared.tree.Operand.{Operand}
+use Rattle.first_tree.specs.declared.tree.Operand.{Operand}
 use Rattle.privateer_core.specs.declared.machine.Frame.{Frame}
 use Rattle.privateer_core.specs.Machine.{Effect, integer}
 

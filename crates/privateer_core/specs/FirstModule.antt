@@ -4,10 +4,10 @@ use Rattle.std.specs.List.{join_with_byte, list_all}
 use Rattle.pv_base.specs.Outside.{Text}
 use Rattle.pv_base.specs.declared.name.Name.{Name}
 use Rattle.pv_base.specs.declared.name.Name.TheVariants.{Named, Numbered}
-use Rattle.ir_tree.specs.declared.tree.Block.{Block}
-use Rattle.ir_tree.specs.declared.tree.Function.{Function}
-use Rattle.ir_tree.specs.declared.tree.Module.{Module}
-use Rattle.ir_tree.specs.Rules.{is_lawful}
+use Rattle.first_tree.specs.declared.tree.Block.{Block}
+use Rattle.first_tree.specs.declared.tree.Function.{Function}
+use Rattle.first_tree.specs.declared.tree.Module.{Module}
+use Rattle.first_tree.specs.Rules.{is_lawful}
 use Rattle.privateer_core.specs.declared.first_text.lines.Line.{Line}
 use Rattle.privateer_core.specs.declared.first_text.lines.Line.TheVariants.{Label, Phi as PhiLine, Instruction}
 use Rattle.privateer_core.specs.FirstText.{Names, after_front, before_end, first_names, label_in, line_in, pieces, with_lines}

@@ -12,13 +12,13 @@ use Rattle.int_num.specs.declared.ops.BinOp.TheVariants.{Add, Sub, Mul}
 use Rattle.int_num.specs.declared.ops.Flags.{Flags}
 use Rattle.int_num.specs.declared.ops.Pred.{Pred}
 use Rattle.int_num.specs.declared.ops.Pred.TheVariants.{Eq, Ne, Ugt, Uge, Ult, Ule, Sgt, Sge, Slt, Sle}
-use Rattle.ir_tree.specs.declared.tree.Operand.{Operand}
-use Rattle.ir_tree.specs.declared.tree.Operand.TheVariants.{Integer as IntegerOperand, Register as RegisterOperand}
-use Rattle.ir_tree.specs.declared.tree.Instruction.{Instruction as Tree}
-use Rattle.ir_tree.specs.declared.tree.Instruction.TheVariants.{Binary, Compare, Putchar, Jump, Branch, Ret}
-use Rattle.ir_tree.specs.declared.tree.Arm.{Arm}
-use Rattle.ir_tree.specs.declared.tree.Phi.{Phi}
-use Rattle.ir_tree.specs.declared.tree.Register.{Register}
+use Rattle.first_tree.specs.declared.tree.Operand.{Operand}
+use Rattle.first_tree.specs.declared.tree.Operand.TheVariants.{Integer as IntegerOperand, Register as RegisterOperand}
+use Rattle.first_tree.specs.declared.tree.Instruction.{Instruction as Tree}
+use Rattle.first_tree.specs.declared.tree.Instruction.TheVariants.{Binary, Compare, Putchar, Jump, Branch, Ret}
+use Rattle.first_tree.specs.declared.tree.Arm.{Arm}
+use Rattle.first_tree.specs.declared.tree.Phi.{Phi}
+use Rattle.first_tree.specs.declared.tree.Register.{Register}
 use Rattle.privateer_core.specs.declared.first_text.lines.Line.{Line}
 use Rattle.privateer_core.specs.declared.first_text.lines.Line.TheVariants.{Label, Phi as PhiLine, Instruction}
 use Rattle.privateer_core.specs.Numbers.{integer_of, number_within}

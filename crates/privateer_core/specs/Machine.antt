@@ -10,17 +10,17 @@ use Rattle.int_num.specs.declared.ops.Poison.{Poison}
 use Rattle.int_num.specs.declared.ops.Poison.TheVariants as poison
 use Rattle.pv_base.specs.Outside.{Text}
 use Rattle.pv_base.specs.declared.place.Site.{Site}
-use Rattle.ir_tree.specs.declared.tree.Operand.{Operand}
-use Rattle.ir_tree.specs.declared.tree.Operand.TheVariants.{Integer as IntegerOperand, Register as RegisterOperand}
-use Rattle.ir_tree.specs.declared.tree.Instruction.{Instruction}
-use Rattle.ir_tree.specs.declared.tree.Instruction.TheVariants.{Binary, Compare, Putchar, Jump, Branch, Ret}
-use Rattle.ir_tree.specs.declared.tree.Arm.{Arm}
-use Rattle.ir_tree.specs.declared.tree.Phi.{Phi}
-use Rattle.ir_tree.specs.declared.tree.Block.{Block}
-use Rattle.ir_tree.specs.declared.tree.Register.{Register}
-use Rattle.ir_tree.specs.declared.tree.Function.{Function}
-use Rattle.ir_tree.specs.declared.tree.Module.{Module}
-use Rattle.ir_tree.specs.Rules.{main_of, instruction_count}
+use Rattle.first_tree.specs.declared.tree.Operand.{Operand}
+use Rattle.first_tree.specs.declared.tree.Operand.TheVariants.{Integer as IntegerOperand, Register as RegisterOperand}
+use Rattle.first_tree.specs.declared.tree.Instruction.{Instruction}
+use Rattle.first_tree.specs.declared.tree.Instruction.TheVariants.{Binary, Compare, Putchar, Jump, Branch, Ret}
+use Rattle.first_tree.specs.declared.tree.Arm.{Arm}
+use Rattle.first_tree.specs.declared.tree.Phi.{Phi}
+use Rattle.first_tree.specs.declared.tree.Block.{Block}
+use Rattle.first_tree.specs.declared.tree.Register.{Register}
+use Rattle.first_tree.specs.declared.tree.Function.{Function}
+use Rattle.first_tree.specs.declared.tree.Module.{Module}
+use Rattle.first_tree.specs.Rules.{main_of, instruction_count}
 use Rattle.privateer_core.specs.declared.machine.Trap.{Trap as TrapWord}
 use Rattle.privateer_core.specs.declared.machine.Trap.TheVariants.{UnsetRegister, Overflow, Shift, Divide, Flag, Output}
 use Rattle.privateer_core.specs.declared.machine.Value.{Value}

@@ -6,8 +6,8 @@ use Rattle.pv_base.specs.Outside.{Text}
 use Rattle.pv_base.specs.declared.place.Site.{Site}
 use Rattle.pv_base.specs.declared.name.Name.{Name}
 use Rattle.pv_base.specs.declared.name.Name.TheVariants.{Named, Numbered}
-use Rattle.ir_tree.specs.declared.tree.Function.{Function}
-use Rattle.ir_tree.specs.declared.tree.Module.{Module}
+use Rattle.first_tree.specs.declared.tree.Function.{Function}
+use Rattle.first_tree.specs.declared.tree.Module.{Module}
 use Rattle.privateer_core.specs.declared.machine.Trap.{Trap}
 use Rattle.privateer_core.specs.declared.machine.Trap.TheVariants.{UnsetRegister, Overflow, Shift, Divide, Flag, Output}
 use Rattle.privateer_core.specs.declared.machine.End.{End}

@@ -1,10 +1,10 @@
 -- What is known of a change in a frame of a checked module.
 use Rattle.std.specs.Prelude.{◌≡◌, ◌+◌, ◌<◌, ℕ, List, [], ◌∷◌, length, slice_get, Option, Some, true, ⊤}
 use Rattle.int_num.specs.Integer.{Integer}
-use Rattle.ir_tree.specs.declared.tree.Phi.{Phi}
-use Rattle.ir_tree.specs.declared.tree.Register.{Register}
-use Rattle.ir_tree.specs.declared.tree.Module.{Module}
-use Rattle.ir_tree.specs.Rules.{is_wide}
+use Rattle.first_tree.specs.declared.tree.Phi.{Phi}
+use Rattle.first_tree.specs.declared.tree.Register.{Register}
+use Rattle.first_tree.specs.declared.tree.Module.{Module}
+use Rattle.first_tree.specs.Rules.{is_wide}
 use Rattle.privateer_core.specs.declared.machine.Value.{Value}
 use Rattle.privateer_core.specs.declared.machine.Change.{Change}
 use Rattle.privateer_core.specs.declared.machine.Change.TheVariants.{Go, Give, Edge, Return}

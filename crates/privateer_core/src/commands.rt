@@ -10,7 +10,7 @@ use crate::machine::End;
 use crate::machine::run::run;
 use crate::report::report_text;
 use crate::words::{Request, read_request, texts};
-use ir_tree::checked::Checked;
+use first_tree::checked::Checked;
 use pv_base::bytes::Bytes;
 use pv_base::list::List;
 use pv_base::outside::{FileEnd, Files};

@@ -2,7 +2,7 @@
 ghost use Rattle.std.specs.Prelude.{◌≡◌, Err, None, Some, true, codes, IfOk, option_map};
 ghost use Rattle.privateer_core.specs.FirstText.{texts};
 ghost use Rattle.privateer_core.specs.FirstModule.{body_in, entry_name, first_label, function_behind, function_in, function_of, function_of_body, lawful_function, lines_behind, main_function, main_module, module_of, named_function};
-ghost use Rattle.ir_tree.specs.Rules.{is_lawful};
+ghost use Rattle.first_tree.specs.Rules.{is_lawful};
 ghost use Rattle.pv_base.specs.declared.name.Name.TheVariants.{Named};
 ghost use Rattle.privateer_core.specs.declared.first_text.FirstEnd.TheVariants.{Unbuilt};
 
@@ -14,9 +14,9 @@ pub mod words;
 use crate::first_text::blocks::read_blocks;
 use crate::first_text::names::Names;
 use crate::first_text::words::{after_front, before_end, label_in, pieces};
-use ir_tree::checked::Checked;
-use ir_tree::lawful::{has_room, is_lawful};
-use ir_tree::tree::{Block, Function, Module};
+use first_tree::checked::Checked;
+use first_tree::lawful::{has_room, is_lawful};
+use first_tree::tree::{Block, Function, Module};
 use pv_base::bytes::Bytes;
 use pv_base::list::List;
 use pv_base::name::Name;

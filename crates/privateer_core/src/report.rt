@@ -5,7 +5,7 @@ ghost use Rattle.privateer_core.specs.Report.{trap_word, name_text, function_tex
 
 use crate::machine::{End, Outcome, Trap};
 use int_num::sign::signed;
-use ir_tree::tree::Module;
+use first_tree::tree::Module;
 use itoa::Buffer;
 use pv_base::bytes::Bytes;
 use pv_base::name::Name;

@@ -5,7 +5,7 @@ ghost use Rattle.privateer_core.specs.FirstModule.{Adds, added, blocks_of, empty
 
 use crate::first_text::lines::{Line, line_in};
 use crate::first_text::names::Names;
-use ir_tree::tree::Block;
+use first_tree::tree::Block;
 use pv_base::list::List;
 use pv_base::name::Name;
 use pv_base::want::Memory;

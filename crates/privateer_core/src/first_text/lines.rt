@@ -7,7 +7,7 @@ use crate::first_text::names::Names;
 use crate::first_text::words::{after_front, before_end, label_in, pieces, width_in, word};
 use crate::number::integer;
 use int_num::ops::{BinOp, Flags, Pred};
-use ir_tree::tree::{Arm, Instruction as Tree, Operand, Phi as PhiTree};
+use first_tree::tree::{Arm, Instruction as Tree, Operand, Phi as PhiTree};
 use pv_base::bytes::Bytes;
 use pv_base::list::List;
 use pv_base::name::Name;

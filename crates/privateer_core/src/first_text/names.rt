@@ -6,7 +6,7 @@ ghost use Rattle.privateer_core.specs.FirstText.{Leaves, block_in, definition_in
 
 use crate::first_text::words::{after_front, label_in, name_in, pieces, width_in, word};
 use indexmap::IndexSet;
-use ir_tree::tree::Register;
+use first_tree::tree::Register;
 use pv_base::bytes::Bytes;
 use pv_base::list::List;
 use pv_base::name::Name;

@@ -7,7 +7,7 @@ ghost use Rattle.privateer_core.specs.Machine.{operand, integer, integer_in, phi
 
 use crate::machine::{Fault, Frame, Trap, Value};
 use int_num::int::Int;
-use ir_tree::tree::{Arm, Operand, Phi};
+use first_tree::tree::{Arm, Operand, Phi};
 use pv_base::list::List;
 use std::alloc::Global;
 

@@ -1,7 +1,7 @@
 //! What the instruction at which a frame stands does.
 ghost use Rattle.std.specs.Prelude.{◌≡◌, ◌<◌, ◌%◌, true, Some, Ok, length};
 ghost use Rattle.int_num.specs.Operations.{of_bits};
-ghost use Rattle.ir_tree.specs.Rules.{IsChecked, is_typed};
+ghost use Rattle.first_tree.specs.Rules.{IsChecked, is_typed};
 ghost use Rattle.privateer_core.specs.Script.{outcome};
 ghost use Rattle.privateer_core.specs.Effects.{AreOneWidth, Executes, Tells, effect_shown, sent};
 ghost use Rattle.privateer_core.specs.Machine.{FrameOf, HoldFor, binary_script, branch_script, compare_script, edge, executed, function_blocks, function_registers, instruction_at, low_byte, meaning, poison_word, put, put_script, return_script, silent, truth};
@@ -14,7 +14,7 @@ use int_num::binary::binary;
 use int_num::compare::compare;
 use int_num::int::Int;
 use int_num::ops::{BinOp, Flags, Poison, Pred};
-use ir_tree::tree::{Instruction, Module, Operand};
+use first_tree::tree::{Instruction, Module, Operand};
 
 /// The instruction at which the frame stands.
 fn fetch(code: &Module, frame: &Frame) -> Instruction

@@ -1,13 +1,13 @@
 //! What a change does to the top frame.
 ghost use Rattle.std.specs.Prelude.{◌≡◌, ◌+◌, ◌<◌, ◌^◌, length};
-ghost use Rattle.ir_tree.specs.Rules.{IsChecked};
+ghost use Rattle.first_tree.specs.Rules.{IsChecked};
 ghost use Rattle.privateer_core.specs.Machine.{FrameOf, HoldFor, ended_by, enter, function_registers, give, moved, next};
 ghost use Rattle.privateer_core.specs.Typing.{ChangeOf, EdgeOf};
 
 use crate::machine::edge::{integer_in, set_phis};
 use crate::machine::{Change, Frame, Value};
 use int_num::int::Int;
-use ir_tree::tree::Module;
+use first_tree::tree::Module;
 use pv_base::list::List;
 
 /// The frame goes to its next instruction.

@@ -1,6 +1,6 @@
 //! One step, and the run of a module.
 ghost use Rattle.std.specs.Prelude.{◌≡◌, ◌+◌, ◌<◌, ◌≤◌, ◌^◌, ◌≢◌, ◌++◌, length, nat_le, slice_get, Some, Ok, IfOk, OnOk, OnErr};
-ghost use Rattle.ir_tree.specs.Rules.{IsChecked, block_size, main_of};
+ghost use Rattle.first_tree.specs.Rules.{IsChecked, block_size, main_of};
 ghost use Rattle.privateer_core.specs.declared.machine.Step.TheVariants.{Next};
 ghost use Rattle.privateer_core.specs.Effects.{effect_shown, bytes_shown};
 ghost use Rattle.privateer_core.specs.Machine.{FrameOf, StateOf, changed, entered, finish, output_limit, site_of, start, start_at, step, step_word, steps_from, stopped, sequential_run};
@@ -11,9 +11,9 @@ use crate::machine::execute::execute;
 use crate::machine::moves::moved;
 use crate::machine::{Change, Effect, End, Fault, Frame, OUTPUT_LIMIT, Outcome, State, Step, Trap};
 use int_num::int::Int;
-use ir_tree::checked::Checked;
-use ir_tree::names::is_named;
-use ir_tree::tree::{Block, Module};
+use first_tree::checked::Checked;
+use first_tree::names::is_named;
+use first_tree::tree::{Block, Module};
 use pv_base::bytes::Bytes;
 use pv_base::list::List;
 use pv_base::place::Site;

@@ -1,5 +1,5 @@
 use Rattle.std.proofs.Common.{◌≡◌, ◌+◌, ◌<◌, ◌^◌, ap, take, arith, length}
-use Rattle.ir_tree.specs.Rules.{instruction_count}
+use Rattle.first_tree.specs.Rules.{instruction_count}
 use Rattle.privateer_core.proofs.Sites.{frame_fits, site_adds, site_ends}
 use Rattle.privateer_core.proofs.machine.run.site.Goals as goal
 

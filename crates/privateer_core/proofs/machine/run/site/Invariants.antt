@@ -1,5 +1,5 @@
 use Rattle.std.proofs.Common.{◌≡◌, ◌+◌, take}
-use Rattle.ir_tree.specs.Rules.{instruction_count}
+use Rattle.first_tree.specs.Rules.{instruction_count}
 use Rattle.privateer_core.proofs.machine.run.site.Given as goal
 
 abbrev pub invariant-loop-block : goal.invariant-loop-block

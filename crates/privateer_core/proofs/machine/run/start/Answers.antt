@@ -1,5 +1,5 @@
 use Rattle.std.proofs.Common.{◌≡◌, Some, sym, ap, ◌∙◌}
-use Rattle.ir_tree.specs.Rules.{IsChecked, main_of}
+use Rattle.first_tree.specs.Rules.{IsChecked, main_of}
 use Rattle.privateer_core.specs.Machine.{StateOf, start_at}
 use Rattle.privateer_core.proofs.Steps.{if_ok_state, start_is_of}
 use Rattle.privateer_core.proofs.machine.run.start.Goals as goal

@@ -11,8 +11,8 @@ pub struct Checked {
 }
 
 impl Model for Checked {
-    ghost use Rattle.ir_tree.specs.declared.tree.Module.{Module as ModuleTree};
-    ghost use Rattle.ir_tree.specs.Rules.{IsChecked};
+    ghost use Rattle.first_tree.specs.declared.tree.Module.{Module as ModuleTree};
+    ghost use Rattle.first_tree.specs.Rules.{IsChecked};
 
     ghost Value = { ModuleTree };
 
@@ -23,7 +23,7 @@ impl Model for Checked {
 
 impl Checked {
     ghost use Rattle.std.specs.Prelude.{◌≡◌};
-    ghost use Rattle.ir_tree.specs.Rules.{IsChecked};
+    ghost use Rattle.first_tree.specs.Rules.{IsChecked};
 
     /// The module, sealed. It takes no memory.
     pub fn seal(tree: Module) -> Checked

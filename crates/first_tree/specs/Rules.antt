@@ -5,16 +5,16 @@ use Rattle.std.specs.Str.{bytes_eq}
 use Rattle.pv_base.specs.Outside.{Text}
 use Rattle.pv_base.specs.declared.name.Name.{Name}
 use Rattle.pv_base.specs.declared.name.Name.TheVariants.{Named, Numbered}
-use Rattle.ir_tree.specs.declared.tree.Operand.{Operand}
-use Rattle.ir_tree.specs.declared.tree.Operand.TheVariants.{Integer as IntegerOperand, Register as RegisterOperand}
-use Rattle.ir_tree.specs.declared.tree.Instruction.{Instruction}
-use Rattle.ir_tree.specs.declared.tree.Instruction.TheVariants.{Binary, Compare, Putchar, Jump, Branch, Ret}
-use Rattle.ir_tree.specs.declared.tree.Arm.{Arm}
-use Rattle.ir_tree.specs.declared.tree.Phi.{Phi}
-use Rattle.ir_tree.specs.declared.tree.Block.{Block}
-use Rattle.ir_tree.specs.declared.tree.Register.{Register}
-use Rattle.ir_tree.specs.declared.tree.Function.{Function}
-use Rattle.ir_tree.specs.declared.tree.Module.{Module}
+use Rattle.first_tree.specs.declared.tree.Operand.{Operand}
+use Rattle.first_tree.specs.declared.tree.Operand.TheVariants.{Integer as IntegerOperand, Register as RegisterOperand}
+use Rattle.first_tree.specs.declared.tree.Instruction.{Instruction}
+use Rattle.first_tree.specs.declared.tree.Instruction.TheVariants.{Binary, Compare, Putchar, Jump, Branch, Ret}
+use Rattle.first_tree.specs.declared.tree.Arm.{Arm}
+use Rattle.first_tree.specs.declared.tree.Phi.{Phi}
+use Rattle.first_tree.specs.declared.tree.Block.{Block}
+use Rattle.first_tree.specs.declared.tree.Register.{Register}
+use Rattle.first_tree.specs.declared.tree.Function.{Function}
+use Rattle.first_tree.specs.declared.tree.Module.{Module}
 
 -- the name is spelled by these bytes
 abbrev pub is_named : Text → Name → Bool

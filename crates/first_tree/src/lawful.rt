@@ -2,7 +2,7 @@
 ghost use Rattle.std.specs.Prelude.{◌≡◌, ◌==◌, ◌<◌, ◌^◌, ◌↔◌, IsTrue, Some, length, slice_get};
 ghost use Rattle.std.specs.List.{find, list_all, list_any};
 ghost use Rattle.std.specs.Option.{option_copied};
-ghost use Rattle.ir_tree.specs.Rules.{are_joined, are_met, goes_to, has_arm, has_edge, instruction_count, is_ended, is_joined_arm, is_joined_block, is_joined_phi, is_lawful, is_met, is_of, is_result, is_same, is_sound_block, is_target, is_terminator, is_typed, is_typed_phi, is_wide};
+ghost use Rattle.first_tree.specs.Rules.{are_joined, are_met, goes_to, has_arm, has_edge, instruction_count, is_ended, is_joined_arm, is_joined_block, is_joined_phi, is_lawful, is_met, is_of, is_result, is_same, is_sound_block, is_target, is_terminator, is_typed, is_typed_phi, is_wide};
 
 use crate::tree::{Arm, Block, Function, Instruction, Operand, Phi, Register};
 

@@ -1,6 +1,6 @@
 //! Tests of names.
 ghost use Rattle.std.specs.Prelude.{◌≡◌};
-ghost use Rattle.ir_tree.specs.Rules.{is_named};
+ghost use Rattle.first_tree.specs.Rules.{is_named};
 
 use pv_base::name::Name;
 
