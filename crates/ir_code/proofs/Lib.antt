@@ -12,3 +12,5 @@ pub mod Looking
 pub mod Filtering
 pub mod Opening
 pub mod Assembling
+pub mod Ranges
+pub mod Nodes

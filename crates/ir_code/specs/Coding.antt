@@ -1,5 +1,5 @@
 -- A module with its names resolved.
-use Rattle.std.specs.Prelude.{ℕ, List, map, Bool, false, Option, Some, None, option_map, position, length, codes, if◌then◌else◌}
+use Rattle.std.specs.Prelude.{ℕ, List, map, Bool, false, Option, Some, None, option_map, option_and_then, slice_get, position, length, codes, if◌then◌else◌}
 use Rattle.std.specs.List.{flat_map, range_with_len}
 use Rattle.pv_base.specs.Outside.{Text}
 use Rattle.ir_tree.specs.declared.items.Function.{Function}
@@ -9,6 +9,7 @@ use Rattle.ir_tree.specs.Modules.{Items, layout_in}
 use Rattle.ir_tree.specs.Trees.{PtrV, ConstantV, IntegerC, NullC, ZeroC, TextC, ArrayC, StructC, NameC, AddressC}
 use Rattle.ir_tree.specs.Naming.{name_at, constant_at}
 use Rattle.ir_tree.specs.Rules.{is_named}
+use Rattle.ir_code.specs.declared.op.Scalar.{Scalar}
 use Rattle.ir_code.specs.declared.code.FunctionCode.{FunctionCode}
 use Rattle.ir_code.specs.declared.code.Code.{Code}
 use Rattle.ir_code.specs.declared.lookups.Constant.{Constant}
@@ -28,6 +29,14 @@ constant_of m (StructC packed elements) = None
 constant_of m (NameC name) = option_map constant.Is (fixed_of m PtrV (NameC name))
 constant_of m (AddressC of base indices) = option_map constant.Is (fixed_of m PtrV (AddressC of base indices))
 
+-- the constant of a number
+abbrev pub constant_in : Items → ℕ → Option Constant
+constant_in m k = constant_of m (constant_at m.names k)
+
+-- the type of a number, where a register may have it
+abbrev pub scalar_in : Table → ℕ → Option Scalar
+scalar_in t of = option_and_then scalar_of (slice_get t.types of)
+
 -- the size of the type of a number
 abbrev pub size_in : Items → ℕ → Option ℕ
 size_in m of = option_map (λ l. l.size) (layout_in m of)
@@ -35,9 +44,9 @@ size_in m of = option_map (λ l. l.size) (layout_in m of)
 -- what is found once of a module
 abbrev pub tables_of : Items → Tables
 tables_of m = record {
-  scalars = map scalar_of m.names.types;
+  scalars = map (scalar_in m.names) (range_with_len 0 (length m.names.types));
   sizes = map (size_in m) (range_with_len 0 (length m.names.types));
-  constants = map (λ k. constant_of m (constant_at m.names k)) (range_with_len 0 (length m.names.constants));
+  constants = map (constant_in m) (range_with_len 0 (length m.names.constants));
   functions = map (λ f. Some f.name) m.functions;
   linkages = map (linkage_of m.names) m.functions;
 }

@@ -9,6 +9,7 @@ pub mod Addresses
 pub mod Blocks
 pub mod Adding
 pub mod Coding
+pub mod Found
 pub mod Strides
 pub mod Fixed
 pub mod Leading

@@ -1,7 +1,22 @@
 //! Functions and modules with their names resolved.
+ghost use Rattle.std.specs.Prelude.{◌≡◌, ◌≤◌, ◌^◌, IfOk, map, length, position};
+ghost use Rattle.ir_code.specs.Tables.{linkage_of};
+
+use crate::functions::function_of;
+use crate::lookups::Lookups;
+use crate::made::lookups;
 use crate::op::{Op, Operand, Scalar};
+use ir_tree::items::Function;
+use ir_tree::names::is_named;
+use ir_tree::table::Names;
+use ir_tree::whole::Module;
 use pv_base::external::External;
 use pv_base::list::List;
+use pv_base::want::Memory;
+use std::alloc::Global;
+
+/// How many numbers there are.
+const NUMBERS: usize = 4294967296;
 
 /// What a phi takes on an edge.
 #[derive(Clone, Copy, Debug)]
@@ -44,4 +59,79 @@ pub struct FunctionCode {
 pub struct Code {
     pub functions: List<FunctionCode>,
     pub main: Option<u32>,
+}
+
+impl Code {
+    ghost use Rattle.ir_code.specs.Coding.{code_of};
+
+    /// A module with its names resolved, in time linear in the module but for looking names up.
+    #[tactic(auto, unfolding(crate::specs::Coding::code_of))]
+    pub fn new(alloc: Global, module: &Module) -> Result<Code, Memory>
+        ensures { IfOk result (λ code. code ≡ code_of «module».now) }
+    {
+        let functions = module.functions();
+        if functions.len() > NUMBERS {
+            return Err(Memory);
+        }
+        let lookups = lookups(alloc, module)?;
+        let coded = functions_of(alloc, module, &lookups, functions)?;
+        Ok(Code {
+            functions: coded,
+            main: main_of(module.names(), functions),
+        })
+    }
+}
+
+ghost use Rattle.ir_code.specs.Coding.{function_of, is_main};
+
+fn functions_of(
+    alloc: Global,
+    module: &Module,
+    lookups: &Lookups,
+    functions: &[Function],
+) -> Result<List<FunctionCode>, Memory>
+    requires sizes { length lookups.now.sizes ≡ length «module».now.names.types }
+    requires linkages { lookups.now.linkages ≡ map (linkage_of «module».now.names) functions.now }
+    ensures { IfOk result (λ fs. fs ≡ map (function_of «module».now lookups.now) functions.now) }
+{
+    let mut all = List::new(alloc);
+    for number in 0..functions.len() {
+        let linkage = *lookups.linkages.at(number);
+        let code = function_of(alloc, module, lookups, &functions[number], linkage)?;
+        all.push(code)?;
+    }
+    Ok(all)
+}
+
+/// A definition of `main`.
+fn is_main(names: &Names, function: &Function) -> bool
+    ensures { result ≡ is_main names.now function.now }
+{
+    if function.declared {
+        return false;
+    }
+    match names.name(function.name) {
+        Some(name) => is_named(b"main", name),
+        None => false,
+    }
+}
+
+/// The place of the first definition of `main`.
+fn place_of_main(names: &Names, functions: &[Function]) -> Option<usize>
+    ensures { result ≡ position (is_main names.now) functions.now }
+{
+    functions
+        .iter()
+        .position(|function| is_main(names, function))
+}
+
+/// The number of the first definition of `main`.
+fn main_of(names: &Names, functions: &[Function]) -> Option<u32>
+    requires { length functions.now ≤ 2 ^ 32 }
+    ensures { result ≡ position (is_main names.now) functions.now }
+{
+    match place_of_main(names, functions) {
+        Some(place) => Some(place as u32),
+        None => None,
+    }
 }

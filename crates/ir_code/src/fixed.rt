@@ -298,6 +298,13 @@ impl Constants {
         Ok(Constants { found })
     }
 
+    /// What was found for the constant of a number, taken as a pointer.
+    pub fn as_pointer(&self, number: ConstantId) -> Option<Fixed>
+        ensures { result ≡ slice_index_or self.now number None }
+    {
+        at(self.found.as_slice(), number)
+    }
+
     /// The constant of a number at a type of a number, as a register holds it; `None` where it is an aggregate, the name of
     /// no item, or an address that cannot be found. It only looks up.
     pub fn at(&self, tree: &Module, of: TypeId, number: ConstantId) -> Option<Fixed>

@@ -12,6 +12,7 @@ pub mod fixed;
 mod functions;
 mod joins;
 mod lookups;
+mod made;
 pub mod op;
 mod ops;
 mod places;
