@@ -12,13 +12,14 @@ use Rattle.ir_tree.specs.Layouts.{field_type}
 use Rattle.ir_tree.specs.Trees.{TypeV, IntV, ArrayV, StructV, NamedV, TypesV, ConstantV, IntegerC, ZeroC}
 use Rattle.ir_text.specs.declared.fault.Fault.TheVariants.{Ended}
 use Rattle.ir_text.specs.Tokens.{TokenV, among, is_mark}
+use Rattle.ir_text.specs.Operands.{operand_at}
 use Rattle.ir_text.specs.Reading.{Outcome, Reader, ◌>>=◌, wrong, Meaning, token_by}
 use Rattle.ir_text.specs.Choice.{choose}
 use Rattle.ir_text.specs.Leaves.{mark_at}
 use Rattle.ir_text.specs.Repeated.{repeated_under}
 use Rattle.ir_text.specs.Trailing.{passed_tail, kept}
 use Rattle.ir_text.specs.Types.{Known, register_type}
-use Rattle.ir_instr.specs.Parts.{fixed_type, memory_type_at, operand_at, pointer_at, integer_argument_at}
+use Rattle.ir_instr.specs.Parts.{fixed_type, memory_type_at, pointer_at, integer_argument_at}
 use Rattle.ir_instr.specs.Flags.{words_of}
 use Rattle.ir_instr.specs.Memory.{begins_tail}
 
@@ -82,10 +83,10 @@ abbrev pub field_checked : TypesV → TokenV → Operand Name ConstantV × List 
 field_checked fields t x None = wrong t causes.Operand
 field_checked fields t x (Some i) = if is_some (field_type fields i) then Ok x else wrong t causes.Number
 
-module _ (constant_at : TypeV → Reader ConstantV) where
+module _ (known : Known) where
   unfoldable pub field_value_at : TypesV → Reader (Operand Name ConstantV)
   field_value_at fields [] = Err Ended
-  field_value_at fields (t ∷ rest) = operand_at constant_at (IntV 32) (t ∷ rest) >>= λ x. field_checked fields t x (field_number x.0)
+  field_value_at fields (t ∷ rest) = operand_at known (IntV 32) (t ∷ rest) >>= λ x. field_checked fields t x (field_number x.0)
 
   -- i32 c, which names a field
   abbrev pub field_index_at : TypesV → Reader (Argument Name TypeV ConstantV)
@@ -95,47 +96,47 @@ module _ (constant_at : TypeV → Reader ConstantV) where
     Ok (record { of = IntV 32; value = value.0 }, value.1)
 
   abbrev pub index_into : Option TypeV → Reader (Argument Name TypeV ConstantV)
-  index_into None = integer_argument_at constant_at
-  index_into (Some (ArrayV count of)) = integer_argument_at constant_at
+  index_into None = integer_argument_at known
+  index_into (Some (ArrayV count of)) = integer_argument_at known
   index_into (Some (StructV packed fields)) = field_index_at fields
   index_into (Some other) = token_by no_index
 
   -- an index
-  abbrev pub index_at : Known → Into → Reader (Argument Name TypeV ConstantV)
-  index_at known (Whole of) = integer_argument_at constant_at
-  index_at known (Inside of) = index_into (opened known of)
-  index_at known Faulty = integer_argument_at constant_at
+  abbrev pub index_at : Into → Reader (Argument Name TypeV ConstantV)
+  index_at (Whole of) = integer_argument_at known
+  index_at (Inside of) = index_into (opened known of)
+  index_at Faulty = integer_argument_at known
 
-  abbrev pub some_index_at : Known → Into → Reader (Option (Argument Name TypeV ConstantV))
-  some_index_at known into ts = index_at known into ts >>= λ index. Ok (Some index.0, index.1)
+  abbrev pub some_index_at : Into → Reader (Option (Argument Name TypeV ConstantV))
+  some_index_at into ts = index_at into ts >>= λ index. Ok (Some index.0, index.1)
 
   -- a further index, or behind all of them what is passed over
-  abbrev pub index_or_tail : Known → Option Into → Reader (Option (Argument Name TypeV ConstantV))
-  index_or_tail known (Some into) = choose begins_tail passed_tail (some_index_at known into)
-  index_or_tail known None = passed_tail
+  abbrev pub index_or_tail : Option Into → Reader (Option (Argument Name TypeV ConstantV))
+  index_or_tail (Some into) = choose begins_tail passed_tail (some_index_at into)
+  index_or_tail None = passed_tail
 
-  abbrev pub behind_comma : Known → Option Into → Reader (Option (Argument Name TypeV ConstantV))
-  behind_comma known into ts = mark_at 44 ts >>= λ comma. index_or_tail known into comma.1
+  abbrev pub behind_comma : Option Into → Reader (Option (Argument Name TypeV ConstantV))
+  behind_comma into ts = mark_at 44 ts >>= λ comma. index_or_tail into comma.1
 
   -- once something was passed over, no index follows
-  abbrev pub still_into : Known → Option Into → Option (Argument Name TypeV ConstantV) → Option Into
-  still_into known (Some into) (Some index) = Some (next_into known into index)
-  still_into known into other = None
+  abbrev pub still_into : Option Into → Option (Argument Name TypeV ConstantV) → Option Into
+  still_into (Some into) (Some index) = Some (next_into known into index)
+  still_into into other = None
 
   -- one index or more behind the pointer, and what is passed over behind them
-  abbrev pub indices_at : Known → TypeV → Reader (List (Argument Name TypeV ConstantV))
-  indices_at known of ts = do
+  abbrev pub indices_at : TypeV → Reader (List (Argument Name TypeV ConstantV))
+  indices_at of ts = do
     comma ← mark_at 44 ts
-    first ← index_at known (Whole of) comma.1
-    others ← repeated_under (is_mark 44) (behind_comma known) (still_into known) (Some (Inside of)) first.1
+    first ← index_at (Whole of) comma.1
+    others ← repeated_under (is_mark 44) behind_comma still_into (Some (Inside of)) first.1
     Ok (first.0 ∷ kept others.0, others.1)
 
   -- inbounds T, ptr P, iN I, ..
-  abbrev pub address_at : Known → Name → Reader (Instruction Name TypeV ConstantV)
-  address_at known to ts = do
+  abbrev pub address_at : Name → Reader (Instruction Name TypeV ConstantV)
+  address_at to ts = do
     words ← words_of address_words ts
     of ← memory_type_at known words.1
     comma ← mark_at 44 of.1
-    base ← pointer_at constant_at comma.1
-    indices ← indices_at known of.0 base.1
+    base ← pointer_at known comma.1
+    indices ← indices_at of.0 base.1
     Ok (instruction.Address to (among words.0 (codes "inbounds")) of.0 base.0 indices.0, indices.1)

@@ -13,14 +13,14 @@ use Rattle.ir_tree.specs.declared.instruction.Instruction.TheVariants as instruc
 use Rattle.ir_tree.specs.Trees.{TypeV, ConstantV}
 use Rattle.ir_text.specs.declared.fault.Fault.TheVariants.{Ended}
 use Rattle.ir_text.specs.Tokens.{TokenV, is_mark, is_points, is_refused}
+use Rattle.ir_text.specs.Operands.{operand_at}
 use Rattle.ir_text.specs.Reading.{Reader, ◌>>=◌, gives, wrong, Meaning, token_by}
 use Rattle.ir_text.specs.Choice.{choose}
 use Rattle.ir_text.specs.Leaves.{tested, mark_at, word_at, spelled_name}
 use Rattle.ir_text.specs.Lists.{list_at}
 use Rattle.ir_text.specs.Passed.{skipped, is_integer, some_integer, group_from, may_pass, after_sign, after_string, words_at, stops}
-use Rattle.ir_text.specs.Types.{register_type, result_type}
+use Rattle.ir_text.specs.Types.{Known, register_type, result_type}
 use Rattle.ir_instr.specs.Words.{opcodes, constant_words}
-use Rattle.ir_instr.specs.Parts.{operand_at}
 
 -- ---- the words between the type of an argument and its value
 
@@ -55,13 +55,13 @@ attribute_at (t ∷ rest) = if may_pass begins_value t then attribute_by t.kind 
 abbrev pub attributes_at : Reader (Unit {0})
 attributes_at = skipped (may_pass begins_value) attribute_at
 
-module _ (constant_at : TypeV → Reader ConstantV) where
+module _ (known : Known) where
   -- T A, with attributes between them
   abbrev pub argument_at : Reader (Argument Name TypeV ConstantV)
   argument_at ts = do
     of ← token_by register_type ts
     passed ← attributes_at of.1
-    value ← operand_at constant_at of.0 passed.1
+    value ← operand_at known of.0 passed.1
     Ok (record { of = of.0; value = value.0 }, value.1)
 
 -- ---- what is called
@@ -102,7 +102,7 @@ answer_type None = result_type
 abbrev pub unbundled : Reader (Unit {0})
 unbundled = choose (is_mark 91) (token_by (λ t. Err (causes.OutOfProfile (codes "operand bundles")))) (gives tt)
 
-module _ (constant_at : TypeV → Reader ConstantV) where
+module _ (known : Known) where
   -- WORDS T @f(T A, ..) WORDS, with a written function type behind T
   abbrev pub call_at : Option Name → Reader (Instruction Name TypeV ConstantV)
   call_at to ts = do
@@ -111,7 +111,7 @@ module _ (constant_at : TypeV → Reader ConstantV) where
     variadic ← variadic_at of.1
     what ← token_by (called variadic.0) variadic.1
     parenthesis ← mark_at 40 what.1
-    arguments ← list_at 41 (argument_at constant_at) parenthesis.1
+    arguments ← list_at 41 (argument_at known) parenthesis.1
     behind ← words_at (stops opcodes false) arguments.1
     none ← unbundled behind.1
     Ok (instruction.Call to of.0 variadic.0 what.0 arguments.0, none.1)

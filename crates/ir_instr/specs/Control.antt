@@ -12,13 +12,15 @@ use Rattle.ir_tree.specs.declared.instruction.Instruction.TheVariants as instruc
 use Rattle.ir_tree.specs.Trees.{TypeV, IntV, VoidV, ConstantV, IntegerC, ZeroC}
 use Rattle.ir_text.specs.declared.fault.Fault.TheVariants.{Ended}
 use Rattle.ir_text.specs.Tokens.{TokenV, is_mark, is_word}
+use Rattle.ir_text.specs.Operands.{constant_at, operand_at}
+use Rattle.ir_text.specs.Constants.{width_of}
 use Rattle.ir_text.specs.Reading.{Reader, ◌>>=◌, wrong, Meaning, token_by}
 use Rattle.ir_text.specs.Choice.{choose}
 use Rattle.ir_text.specs.Leaves.{mark_at}
 use Rattle.ir_text.specs.Passed.{is_type_word}
 use Rattle.ir_text.specs.Repeated.{repeated_under}
-use Rattle.ir_text.specs.Types.{result_type}
-use Rattle.ir_instr.specs.Parts.{fixed_type, integer_type, operand_at, target_at}
+use Rattle.ir_text.specs.Types.{Known, result_type}
+use Rattle.ir_instr.specs.Parts.{fixed_type, integer_type, target_at}
 
 -- ---- branches
 
@@ -60,12 +62,12 @@ with_bits earlier None = earlier
 abbrev pub with_case : List ℕ → Case Name ConstantV → List ℕ
 with_case earlier c = with_bits earlier (bits_of c.value)
 
-module _ (constant_at : TypeV → Reader ConstantV) where
+module _ (known : Known) where
   -- ---- returns
 
   abbrev pub returned_at : TypeV → Reader (Option (Argument Name TypeV ConstantV))
   returned_at VoidV ts = Ok (None, ts)
-  returned_at of ts = operand_at constant_at of ts >>= λ value. Ok (Some (record { of = of; value = value.0 }), value.1)
+  returned_at of ts = operand_at known of ts >>= λ value. Ok (Some (record { of = of; value = value.0 }), value.1)
 
   -- void, or T A
   abbrev pub return_at : Reader (Instruction Name TypeV ConstantV)
@@ -80,7 +82,7 @@ module _ (constant_at : TypeV → Reader ConstantV) where
   abbrev pub branch_at : Reader (Instruction Name TypeV ConstantV)
   branch_at ts = do
     bit ← token_by condition_type ts
-    condition ← operand_at constant_at (IntV 1) bit.1
+    condition ← operand_at known (IntV 1) bit.1
     comma ← mark_at 44 condition.1
     on_true ← target_at comma.1
     next ← mark_at 44 on_true.1
@@ -95,7 +97,7 @@ module _ (constant_at : TypeV → Reader ConstantV) where
   -- a constant whose bits are none of those before
   unfoldable pub case_value_at : TypeV → List ℕ → Reader ConstantV
   case_value_at of earlier [] = Err Ended
-  case_value_at of earlier (t ∷ rest) = constant_at of (t ∷ rest) >>= λ value. if met_before earlier (bits_of value.0) then wrong t causes.Duplicate else Ok value
+  case_value_at of earlier (t ∷ rest) = constant_at known (width_of of) (t ∷ rest) >>= λ value. if met_before earlier (bits_of value.0) then wrong t causes.Duplicate else Ok value
 
   -- iN c, label %to
   abbrev pub case_at : TypeV → List ℕ → Reader (Case Name ConstantV)
@@ -110,7 +112,7 @@ module _ (constant_at : TypeV → Reader ConstantV) where
   abbrev pub switch_at : Reader (Instruction Name TypeV ConstantV)
   switch_at ts = do
     of ← token_by integer_type ts
-    value ← operand_at constant_at of.0 of.1
+    value ← operand_at known of.0 of.1
     comma ← mark_at 44 value.1
     default ← target_at comma.1
     bracket ← mark_at 91 default.1

@@ -17,6 +17,8 @@ use Rattle.ir_text.specs.Choice.{Opens}
 use Rattle.ir_text.specs.Spelled.{one_token}
 use Rattle.ir_text.specs.Leaves.{local}
 use Rattle.ir_text.specs.Lists.{closed_list}
+use Rattle.ir_text.specs.Operands.{a_constant, an_operand}
+use Rattle.ir_text.specs.Constants.{width_of}
 use Rattle.ir_text.specs.Passed.{is_any_word, some_words, stops}
 use Rattle.ir_text.specs.Repeated.{each, each_under}
 use Rattle.ir_text.specs.Tails.{some_tails}
@@ -65,27 +67,22 @@ abbrev pub a_function_type : Bool → List TokenV → Type 0
 a_function_type false ws = ws ≡ []
 a_function_type true ws = (a_mark 40 ▸ a_word (codes "ptr") ▸ a_mark 44 ▸ one_token points tt ▸ a_mark 41) ws
 
-module _ (known : Known) (a_constant : TypeV → ConstantV → List TokenV → Type 0) where
-  -- a register, or a constant of the type
-  abbrev pub an_operand : TypeV → Operand Name ConstantV → List TokenV → Type 0
-  an_operand of (operand.Register name) = one_token local name
-  an_operand of (operand.Constant value) = a_constant of value
-
+module _ (known : Known) where
   -- ptr P
   abbrev pub a_pointer : Operand Name ConstantV → List TokenV → Type 0
-  a_pointer value = one_token (fixed_type PtrV) tt ▸ an_operand PtrV value
+  a_pointer value = one_token (fixed_type PtrV) tt ▸ an_operand known PtrV value
 
   -- iN A
   abbrev pub an_integer_argument : Argument Name TypeV ConstantV → List TokenV → Type 0
-  an_integer_argument a = one_token integer_type a.of ▸ an_operand a.of a.value
+  an_integer_argument a = one_token integer_type a.of ▸ an_operand known a.of a.value
 
   -- T A, with attributes between them
   abbrev pub an_argument : Argument Name TypeV ConstantV → List TokenV → Type 0
-  an_argument a = one_token register_type a.of ▸ some_words begins_value tt ▸ an_operand a.of a.value
+  an_argument a = one_token register_type a.of ▸ some_words begins_value tt ▸ an_operand known a.of a.value
 
   -- [ A, %from ]
   abbrev pub an_arm : TypeV → Arm Name ConstantV → List TokenV → Type 0
-  an_arm of a = a_mark 91 ▸ an_operand of a.value ▸ a_mark 44 ▸ one_token local a.from ▸ a_mark 93
+  an_arm of a = a_mark 91 ▸ an_operand known of a.value ▸ a_mark 44 ▸ one_token local a.from ▸ a_mark 93
 
   -- one arm or more
   abbrev pub some_arms : TypeV → List (Arm Name ConstantV) → List TokenV → Type 0
@@ -94,12 +91,12 @@ module _ (known : Known) (a_constant : TypeV → ConstantV → List TokenV → T
 
   -- iN c, label %to, whose bits are none of those before
   pub record ACase (of : TypeV) (earlier : List ℕ) (c : Case Name ConstantV) (ws : List TokenV) : Type 0 where
-    pub spelled : (one_token (fixed_type of) tt ▸ a_constant of c.value ▸ a_mark 44 ▸ a_target c.to) ws
+    pub spelled : (one_token (fixed_type of) tt ▸ a_constant known (width_of of) c.value ▸ a_mark 44 ▸ a_target c.to) ws
     pub fresh : met_before earlier (bits_of c.value) ≡ false
 
   -- i32 c, which names one of the fields
   pub record AField (fields : TypesV) (a : Argument Name TypeV ConstantV) (ws : List TokenV) : Type 0 where
-    pub spelled : (one_token (fixed_type (IntV 32)) tt ▸ an_operand (IntV 32) a.value) ws
+    pub spelled : (one_token (fixed_type (IntV 32)) tt ▸ an_operand known (IntV 32) a.value) ws
     pub of : a.of ≡ IntV 32
     pub names : IsSome (field_of fields a.value)
 
@@ -128,7 +125,7 @@ module _ (known : Known) (a_constant : TypeV → ConstantV → List TokenV → T
   -- void, or T A
   abbrev pub a_returned : Option (Argument Name TypeV ConstantV) → List TokenV → Type 0
   a_returned None ws = a_word (codes "void") ws
-  a_returned (Some a) ws = (one_token register_type a.of ▸ an_operand a.of a.value) ws
+  a_returned (Some a) ws = (one_token register_type a.of ▸ an_operand known a.of a.value) ws
 
   abbrev pub a_call : Option Name → TypeV → Bool → Callee Name → List (Argument Name TypeV ConstantV) → List TokenV → Type 0
   a_call to of variadic what arguments =
@@ -143,19 +140,19 @@ module _ (known : Known) (a_constant : TypeV → ConstantV → List TokenV → T
     -- an instruction of a function whose counter stands at this number, and that has defined these names
     abbrev pub an_instruction : Instruction Name TypeV ConstantV → List TokenV → Type 0
     an_instruction (instruction.Binary to operation flags of left right) =
-        a_result to ▸ one_token (worded operations) operation ▸ some_flags (flags_for operation) flags ▸ one_token integer_type of ▸ an_operand of left ▸ a_mark 44 ▸ an_operand of right ▸ some_tails tt
+        a_result to ▸ one_token (worded operations) operation ▸ some_flags (flags_for operation) flags ▸ one_token integer_type of ▸ an_operand known of left ▸ a_mark 44 ▸ an_operand known of right ▸ some_tails tt
     an_instruction (instruction.Cast to operation flags of value target) =
-        a_result to ▸ one_token (worded casts) operation ▸ some_flags (cast_flags_for operation) flags ▸ one_token integer_type of ▸ an_operand of value ▸ a_word (codes "to") ▸ one_token integer_type target ▸ some_tails tt
-    an_instruction (instruction.Freeze to of value) = a_result to ▸ a_word (codes "freeze") ▸ one_token register_type of ▸ an_operand of value ▸ some_tails tt
+        a_result to ▸ one_token (worded casts) operation ▸ some_flags (cast_flags_for operation) flags ▸ one_token integer_type of ▸ an_operand known of value ▸ a_word (codes "to") ▸ one_token integer_type target ▸ some_tails tt
+    an_instruction (instruction.Freeze to of value) = a_result to ▸ a_word (codes "freeze") ▸ one_token register_type of ▸ an_operand known of value ▸ some_tails tt
     an_instruction (instruction.Compare to pred of left right) =
-        a_result to ▸ a_word (codes "icmp") ▸ passed_words comparing_words ▸ one_token (worded predicates) pred ▸ one_token register_type of ▸ an_operand of left ▸ a_mark 44 ▸ an_operand of right ▸ some_tails tt
+        a_result to ▸ a_word (codes "icmp") ▸ passed_words comparing_words ▸ one_token (worded predicates) pred ▸ one_token register_type of ▸ an_operand known of left ▸ a_mark 44 ▸ an_operand known of right ▸ some_tails tt
     an_instruction (instruction.Select to condition of on_true on_false) =
-        a_result to ▸ a_word (codes "select") ▸ one_token (fixed_type (IntV 1)) tt ▸ an_operand (IntV 1) condition ▸ a_mark 44
-        ▸ one_token register_type of ▸ an_operand of on_true ▸ a_mark 44 ▸ one_token (fixed_type of) tt ▸ an_operand of on_false ▸ some_tails tt
+        a_result to ▸ a_word (codes "select") ▸ one_token (fixed_type (IntV 1)) tt ▸ an_operand known (IntV 1) condition ▸ a_mark 44
+        ▸ one_token register_type of ▸ an_operand known of on_true ▸ a_mark 44 ▸ one_token (fixed_type of) tt ▸ an_operand known of on_false ▸ some_tails tt
     an_instruction (instruction.Phi to of arms) = a_result to ▸ a_word (codes "phi") ▸ one_token register_type of ▸ some_arms of arms ▸ some_tails tt
     an_instruction (instruction.Alloca to of count) = a_result to ▸ a_word (codes "alloca") ▸ InMemory known of ▸ a_count count ▸ some_tails tt
     an_instruction (instruction.Load to of pointer) = a_result to ▸ a_word (codes "load") ▸ one_token stored_type of ▸ a_mark 44 ▸ a_pointer pointer ▸ some_tails tt
-    an_instruction (instruction.Store of value pointer) = a_word (codes "store") ▸ one_token stored_type of ▸ an_operand of value ▸ a_mark 44 ▸ a_pointer pointer ▸ some_tails tt
+    an_instruction (instruction.Store of value pointer) = a_word (codes "store") ▸ one_token stored_type of ▸ an_operand known of value ▸ a_mark 44 ▸ a_pointer pointer ▸ some_tails tt
     an_instruction (instruction.Address to inbounds of base indices) =
         a_result to ▸ a_word (codes "getelementptr") ▸ Says address_words (λ written. among written (codes "inbounds")) inbounds ▸ InMemory known of ▸ a_mark 44 ▸ a_pointer base ▸ some_indices of indices ▸ some_tails tt
     an_instruction (instruction.Call (Some to) of variadic what arguments) = a_result to ▸ a_call (Some to) of variadic what arguments
@@ -163,8 +160,8 @@ module _ (known : Known) (a_constant : TypeV → ConstantV → List TokenV → T
     an_instruction (instruction.Return value) = a_word (codes "ret") ▸ a_returned value ▸ some_tails tt
     an_instruction (instruction.Jump target) = a_word (codes "br") ▸ a_target target ▸ some_tails tt
     an_instruction (instruction.Branch condition on_true on_false) =
-        a_word (codes "br") ▸ one_token (fixed_type (IntV 1)) tt ▸ an_operand (IntV 1) condition ▸ a_mark 44 ▸ a_target on_true ▸ a_mark 44 ▸ a_target on_false ▸ some_tails tt
+        a_word (codes "br") ▸ one_token (fixed_type (IntV 1)) tt ▸ an_operand known (IntV 1) condition ▸ a_mark 44 ▸ a_target on_true ▸ a_mark 44 ▸ a_target on_false ▸ some_tails tt
     an_instruction (instruction.Switch of value default cases) =
-        a_word (codes "switch") ▸ one_token integer_type of ▸ an_operand of value ▸ a_mark 44 ▸ a_target default
+        a_word (codes "switch") ▸ one_token integer_type of ▸ an_operand known of value ▸ a_mark 44 ▸ a_target default
         ▸ a_mark 91 ▸ each_under (ACase of) with_case [] cases ▸ a_mark 93 ▸ some_tails tt
     an_instruction instruction.Unreachable = a_word (codes "unreachable") ▸ some_tails tt

@@ -21,7 +21,7 @@ use Rattle.ir_text.specs.Passed.{words_at, stops}
 use Rattle.ir_text.specs.Tails.{tails_at}
 use Rattle.ir_text.specs.Types.{Known}
 use Rattle.ir_instr.specs.Words.{meaning_of, operations, casts, resultless, opcodes}
-use Rattle.ir_instr.specs.Parts.{is_local}
+use Rattle.ir_text.specs.Operands.{is_local}
 use Rattle.ir_instr.specs.Arithmetic.{binary_at}
 use Rattle.ir_instr.specs.Casts.{cast_at, freeze_at}
 use Rattle.ir_instr.specs.Comparing.{compare_at}
@@ -59,11 +59,11 @@ with_tails form ts = do
   passed ← tails_at found.1
   Ok (found.0, passed.1)
 
-module _ (known : Known) (constant_at : TypeV → Reader ConstantV) where
+module _ (known : Known) where
   -- behind markers stands `call`, else the first of them begins no instruction
   unfoldable pub marked_call : Option Name → TokenV → Reader (Instruction Name TypeV ConstantV)
   marked_call to t [] = Err Ended
-  marked_call to t (u ∷ rest) = if is_word (codes "call") u then with_tails (call_at constant_at to) rest else wrong t causes.Instruction
+  marked_call to t (u ∷ rest) = if is_word (codes "call") u then with_tails (call_at known to) rest else wrong t causes.Instruction
 
   -- a call from its first token on: words that begin no instruction may stand before `call`
   abbrev pub call_from : Option Name → TokenV → Reader (Instruction Name TypeV ConstantV)
@@ -73,22 +73,22 @@ module _ (known : Known) (constant_at : TypeV → Reader ConstantV) where
 
   abbrev pub other_at : Name → TokenV → Reader (Instruction Name TypeV ConstantV)
   other_at to t rest =
-      if same t.text (codes "freeze") then with_tails (freeze_at constant_at to) rest
-      else (if same t.text (codes "icmp") then with_tails (compare_at constant_at to) rest
-      else (if same t.text (codes "select") then with_tails (select_at constant_at to) rest
-      else (if same t.text (codes "phi") then phi_at constant_at to rest
-      else (if same t.text (codes "alloca") then alloca_at constant_at known to rest
-      else (if same t.text (codes "load") then with_tails (load_at constant_at to) rest
-      else (if same t.text (codes "getelementptr") then address_at constant_at known to rest
+      if same t.text (codes "freeze") then with_tails (freeze_at known to) rest
+      else (if same t.text (codes "icmp") then with_tails (compare_at known to) rest
+      else (if same t.text (codes "select") then with_tails (select_at known to) rest
+      else (if same t.text (codes "phi") then phi_at known to rest
+      else (if same t.text (codes "alloca") then alloca_at known to rest
+      else (if same t.text (codes "load") then with_tails (load_at known to) rest
+      else (if same t.text (codes "getelementptr") then address_at known to rest
       else (if among resultless t.text then wrong t causes.Instruction
       else call_from (Some to) t (t ∷ rest))))))))
 
   abbrev pub cast_or_other : Option CastOp → Name → TokenV → Reader (Instruction Name TypeV ConstantV)
-  cast_or_other (Some operation) to t rest = with_tails (cast_at constant_at to operation) rest
+  cast_or_other (Some operation) to t rest = with_tails (cast_at known to operation) rest
   cast_or_other None to t rest = other_at to t rest
 
   abbrev pub binary_or_other : Option BinOp → Name → TokenV → Reader (Instruction Name TypeV ConstantV)
-  binary_or_other (Some operation) to t rest = with_tails (binary_at constant_at to operation) rest
+  binary_or_other (Some operation) to t rest = with_tails (binary_at known to operation) rest
   binary_or_other None to t rest = cast_or_other (meaning_of casts t.text) to t rest
 
   abbrev pub resulting_by : TokenKind → Name → TokenV → Reader (Instruction Name TypeV ConstantV)
@@ -108,10 +108,10 @@ module _ (known : Known) (constant_at : TypeV → Reader ConstantV) where
 
   abbrev pub effect_of : TokenV → Reader (Instruction Name TypeV ConstantV)
   effect_of t rest =
-      if same t.text (codes "store") then with_tails (store_at constant_at) rest
-      else (if same t.text (codes "ret") then with_tails (return_at constant_at) rest
-      else (if same t.text (codes "br") then with_tails (jump_or_branch_at constant_at) rest
-      else (if same t.text (codes "switch") then with_tails (switch_at constant_at) rest
+      if same t.text (codes "store") then with_tails (store_at known) rest
+      else (if same t.text (codes "ret") then with_tails (return_at known) rest
+      else (if same t.text (codes "br") then with_tails (jump_or_branch_at known) rest
+      else (if same t.text (codes "switch") then with_tails (switch_at known) rest
       else (if same t.text (codes "unreachable") then with_tails (λ us. Ok (instruction.Unreachable, us)) rest
       else (if needs_result t.text then wrong t causes.Instruction
       else call_from None t (t ∷ rest))))))

@@ -11,3 +11,4 @@ pub mod Calls
 pub mod Control
 pub mod Instructions
 pub mod InstructionSpelled
+pub mod Scalars

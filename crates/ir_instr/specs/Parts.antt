@@ -13,6 +13,7 @@ use Rattle.ir_tree.specs.Layouts.{layout_with}
 use Rattle.ir_tree.specs.Trees.{TypeV, IntV, PtrV, ConstantV}
 use Rattle.ir_text.specs.declared.fault.Fault.TheVariants.{Ended}
 use Rattle.ir_text.specs.Tokens.{TokenV}
+use Rattle.ir_text.specs.Operands.{operand_at}
 use Rattle.ir_text.specs.Reading.{Reader, ◌>>=◌, wrong, Meaning, token_by}
 use Rattle.ir_text.specs.Choice.{choose}
 use Rattle.ir_text.specs.Leaves.{word_at, local_at}
@@ -71,40 +72,22 @@ memory_type_at known (t ∷ rest) = type_at known (t ∷ rest) >>= λ x. if has_
 
 -- ---- operands
 
-abbrev pub kind_is_local : TokenKind → Bool
-kind_is_local kind.LocalName = true
-kind_is_local _ = false
-
-abbrev pub is_local : TokenV → Bool
-is_local t = kind_is_local t.kind
-
--- %name
-abbrev pub register_at : Reader (Operand Name ConstantV)
-register_at ts = local_at ts >>= λ name. Ok (operand.Register name.0, name.1)
-
 -- label %name
 abbrev pub target_at : Reader Name
 target_at ts = do
   label ← word_at (codes "label") ts
   local_at label.1
 
-module _ (constant_at : TypeV → Reader ConstantV) where
-  abbrev pub constant_operand : TypeV → Reader (Operand Name ConstantV)
-  constant_operand of ts = constant_at of ts >>= λ value. Ok (operand.Constant value.0, value.1)
-
-  -- a register, or a constant of the type
-  abbrev pub operand_at : TypeV → Reader (Operand Name ConstantV)
-  operand_at of = choose is_local register_at (constant_operand of)
-
+module _ (known : Known) where
   -- ptr P
   abbrev pub pointer_at : Reader (Operand Name ConstantV)
   pointer_at ts = do
     type ← token_by (fixed_type PtrV) ts
-    operand_at PtrV type.1
+    operand_at known PtrV type.1
 
   -- iN A
   abbrev pub integer_argument_at : Reader (Argument Name TypeV ConstantV)
   integer_argument_at ts = do
     of ← token_by integer_type ts
-    value ← operand_at of.0 of.1
+    value ← operand_at known of.0 of.1
     Ok (record { of = of.0; value = value.0 }, value.1)

@@ -1,0 +1,1 @@
+//! Flags behind the word of an operation.

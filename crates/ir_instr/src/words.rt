@@ -1,0 +1,108 @@
+//! The words that begin instructions, and what words stand for.
+
+ghost use Rattle.std.specs.Prelude.{◌≡◌};
+ghost use Rattle.ir_instr.specs.Words as spec;
+
+use int_num::ops::{BinOp, CastOp, Pred};
+
+/// The operation on two integers of a word.
+#[tactic(auto, unfolding(crate::specs::Words::meaning_of))]
+pub fn operation(word: &[u8]) -> Option<BinOp>
+    ensures { result ≡ spec.meaning_of spec.operations word.now }
+{
+    if word == b"add".as_slice() {
+        return Some(BinOp::Add);
+    }
+    if word == b"sub".as_slice() {
+        return Some(BinOp::Sub);
+    }
+    if word == b"mul".as_slice() {
+        return Some(BinOp::Mul);
+    }
+    if word == b"udiv".as_slice() {
+        return Some(BinOp::Udiv);
+    }
+    if word == b"sdiv".as_slice() {
+        return Some(BinOp::Sdiv);
+    }
+    if word == b"urem".as_slice() {
+        return Some(BinOp::Urem);
+    }
+    if word == b"srem".as_slice() {
+        return Some(BinOp::Srem);
+    }
+    if word == b"shl".as_slice() {
+        return Some(BinOp::Shl);
+    }
+    if word == b"lshr".as_slice() {
+        return Some(BinOp::Lshr);
+    }
+    if word == b"ashr".as_slice() {
+        return Some(BinOp::Ashr);
+    }
+    if word == b"and".as_slice() {
+        return Some(BinOp::And);
+    }
+    if word == b"or".as_slice() {
+        return Some(BinOp::Or);
+    }
+    if word == b"xor".as_slice() {
+        return Some(BinOp::Xor);
+    }
+    None
+}
+
+/// The change of width of a word.
+#[tactic(auto, unfolding(crate::specs::Words::meaning_of))]
+pub fn cast(word: &[u8]) -> Option<CastOp>
+    ensures { result ≡ spec.meaning_of spec.casts word.now }
+{
+    if word == b"trunc".as_slice() {
+        return Some(CastOp::Trunc);
+    }
+    if word == b"zext".as_slice() {
+        return Some(CastOp::Zext);
+    }
+    if word == b"sext".as_slice() {
+        return Some(CastOp::Sext);
+    }
+    None
+}
+
+/// The comparison of a word.
+#[tactic(auto, unfolding(crate::specs::Words::meaning_of))]
+pub fn predicate(word: &[u8]) -> Option<Pred>
+    ensures { result ≡ spec.meaning_of spec.predicates word.now }
+{
+    if word == b"eq".as_slice() {
+        return Some(Pred::Eq);
+    }
+    if word == b"ne".as_slice() {
+        return Some(Pred::Ne);
+    }
+    if word == b"ugt".as_slice() {
+        return Some(Pred::Ugt);
+    }
+    if word == b"uge".as_slice() {
+        return Some(Pred::Uge);
+    }
+    if word == b"ult".as_slice() {
+        return Some(Pred::Ult);
+    }
+    if word == b"ule".as_slice() {
+        return Some(Pred::Ule);
+    }
+    if word == b"sgt".as_slice() {
+        return Some(Pred::Sgt);
+    }
+    if word == b"sge".as_slice() {
+        return Some(Pred::Sge);
+    }
+    if word == b"slt".as_slice() {
+        return Some(Pred::Slt);
+    }
+    if word == b"sle".as_slice() {
+        return Some(Pred::Sle);
+    }
+    None
+}
