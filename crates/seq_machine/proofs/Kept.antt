@@ -15,11 +15,14 @@ use Rattle.mem_image.specs.declared.fault.Fault.TheVariants.{Trap, Check, Memory
 use Rattle.seq_machine.specs.declared.state.Value.{Value}
 use Rattle.seq_machine.specs.declared.state.Value.TheVariants.{Pointer}
 use Rattle.seq_machine.specs.Script.{Tells, ends, sent}
+use Rattle.int_num.specs.Integer.{Integer}
+use Rattle.seq_machine.specs.declared.state.Effect.TheVariants as effect
+use Rattle.seq_machine.specs.Effects.{StopsAt}
 use Rattle.seq_machine.specs.declared.state.Frame.{Frame}
 use Rattle.seq_machine.specs.Values.{then_, AreOf, Holds, HoldsIf, IsOf, is_type, is_some_type}
 use Rattle.ir_code.specs.declared.op.Scalar.TheVariants as scalar
 use Rattle.std.proofs.lemmas.Bool.{ltb-true}
-use Rattle.std.specs.Prelude.{MatchOption, IfSome, if◌then◌else◌}
+use Rattle.std.specs.Prelude.{MatchOption, IfSome, IfErr, if◌then◌else◌}
 use Rattle.std.proofs.lemmas.List.{take-append-le, length-take-le, take_all}
 use Rattle.std.proofs.lemmas.Bool.Decides.{nat_tests}
 use Rattle.seq_machine.specs.Flow.{may_stand, Enters, IsResult, receives}
@@ -222,3 +225,10 @@ edge_acted (Err t) frames after place output (Ok u) h = elim h [ ]
 edge_acted (Err t) frames after place output (Err (Trap u)) h = h
 edge_acted (Err t) frames after place output (Err (Check c)) h = elim h [ ]
 edge_acted (Err t) frames after place output (Err Memory) h = tt
+
+pub edge_stops : (x : Result (List Frame) TrapWord) (after : List Frame) (r : Result (Unit {0}) Fault) (edge : ℕ) → Tells x (ends after r) → IfErr (sent {B = Option Integer} (λ u. None) r) (StopsAt (effect.Edge edge))
+edge_stops x after (Ok u) edge h = tt
+edge_stops x after (Err (Trap t)) edge h = tt
+edge_stops (Ok a) after (Err (Check f)) edge h = elim h [ ]
+edge_stops (Err t) after (Err (Check f)) edge h = elim h [ ]
+edge_stops x after (Err Memory) edge h = tt

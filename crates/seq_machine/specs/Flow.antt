@@ -7,6 +7,7 @@ use Rattle.ir_code.specs.declared.op.Operand.{Operand}
 use Rattle.ir_code.specs.declared.code.BlockCode.{BlockCode}
 use Rattle.ir_code.specs.declared.code.FunctionCode.{FunctionCode}
 use Rattle.ir_code.specs.declared.code.Code.{Code}
+use Rattle.ir_code.specs.Cases.{edge_of}
 use Rattle.mem_image.specs.declared.object.Pointer.{Pointer as Address}
 use Rattle.mem_image.specs.declared.object.Pointer.TheVariants.{Null, Obj, Fun}
 use Rattle.mem_image.specs.declared.fault.Trap.{Trap}
@@ -24,6 +25,10 @@ use Rattle.seq_machine.specs.Numbers.{condition}
 
 abbrev pub branched : Frame → Operand → ℕ → ℕ → Result Effect Trap
 branched f x on_true on_false = then_ (condition f x) (λ b. Ok (Edge (if b then on_true else on_false)))
+
+-- the edge of the value, or the default
+abbrev pub switched : Frame → Operand → ℕ → List (ℕ × ℕ) → Result Effect Trap
+switched f x default cases = then_ (number f x) (λ n. Ok (Edge (unwrap_or (edge_of cases n.bits) default)))
 
 -- ---- calls
 

@@ -6,3 +6,7 @@ pub mod Accesses
 pub mod Flow
 pub mod Acts
 pub mod Frames
+pub mod Externals
+pub mod Meaning
+pub mod Step
+pub mod Effects

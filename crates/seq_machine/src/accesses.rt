@@ -3,17 +3,19 @@ ghost use Rattle.std.specs.Prelude.{◌≡◌, ◌≤◌, IfOk, IsSome, OnErr, s
 ghost use Rattle.ir_code.specs.declared.op.Scalar.TheVariants as scalar;
 ghost use Rattle.mem_image.specs.Calls.{Bytes};
 ghost use Rattle.seq_machine.specs.Words.{word_length};
+ghost use Rattle.seq_machine.specs.Effects.{MayStop};
 ghost use Rattle.seq_machine.specs.Script.{Follows};
 ghost use Rattle.seq_machine.specs.Values.{Sets, Holds, is_some_type};
 ghost use Rattle.seq_machine.specs.Accesses.{loaded_reply, load, store, alloca};
 ghost use Rattle.seq_machine.specs.declared.state.Value.TheVariants as held;
 
-use crate::state::{Effect, Frame};
-use crate::values::give;
+use crate::state::{Effect, Frame, Value};
+use crate::values::{give, is_type};
 use crate::words::{load_value, store_word, word_length};
 use ir_code::op::{Operand, Scalar};
 use mem_image::fault::{Fault, Trap};
 use mem_image::memory::Mem;
+use mem_image::object::{Kind, Pointer};
 use mem_image::word::Word;
 use pv_base::list::List;
 use pv_base::place::Site;
@@ -75,4 +77,42 @@ pub fn store<M: Mem>(
     let word = store_word(of, &value)?;
     memory.write_word(at, 0, pointer, &word)?;
     Ok(Effect::Next)
+}
+
+/// Whether the register is one that holds pointers.
+fn holds_pointer(types: &List<Scalar>, to: u32) -> bool
+    ensures same { result ≡ is_some_type (slice_get types.now to) scalar.Pointer }
+    ensures holds { result ≡ true → ((p : _) → Holds types.now to (held.Pointer p)) }
+{
+    match types.get(to as usize) {
+        Some(of) => is_type(*of, Scalar::Pointer),
+        None => false,
+    }
+}
+
+/// A new stack object, which is the frame's own.
+pub fn alloca<M: Mem>(
+    types: &List<Scalar>,
+    memory: &mut M,
+    at: Site,
+    to: u32,
+    size: u64,
+) -> Result<Effect, Fault>
+    requires ready { M.ready memory.old }
+    ensures ready { M.ready memory.new }
+    ensures follows { Follows M.image M.relation (alloca types.now at to size) memory.old result memory.new }
+    ensures image { OnErr result (M.image memory.new ≡ M.image memory.old) }
+    ensures plain { IfOk result (λ e. MayStop e → ⊥) }
+    ensures sets { IfOk result (Sets types.now) }
+{
+    if !holds_pointer(types, to) {
+        return Err(Fault::Trap(Trap::Unreachable));
+    }
+    match memory.make(at, Kind::Stack, size, false)? {
+        Pointer::Obj { name, offset: _ } => Ok(Effect::Keep { to, name }),
+        pointer => Ok(Effect::Give {
+            to,
+            value: Value::Pointer(pointer),
+        }),
+    }
 }

@@ -7,6 +7,7 @@ ghost use Rattle.seq_machine.specs.Values.{AreOf, Holds, then_};
 ghost use Rattle.seq_machine.specs.Acts.{top, with_top, next, put, keep, put_if, move_value, move_values, set_moves, arrived, taken, types_of, function_at, MovesHold, Stands, blocks_of, phis_of, entered, exit_number, result_register, op_at, back, resumed_top, without_top, put_result, acted, control_of, acted_of, frame_limit, output_limit};
 ghost use Rattle.seq_machine.specs.Frames.{CodeOk, FrameOf, FramesOf, HasMore, HoldsResult, EffectOf, result_of};
 ghost use Rattle.seq_machine.specs.Flow.{IsResult};
+ghost use Rattle.seq_machine.specs.Effects.{StopsAt};
 
 use crate::flow::may_stand;
 use crate::state::{Effect, Frame, Value};
@@ -400,6 +401,7 @@ pub fn act(
     requires effect { (f : _) → top frames.old ≡ Some f → EffectOf code.now f effect }
     ensures acted { (f : _) → top frames.old ≡ Some f → Tells (acted code.now function.now f (control_of frames.old input_place.old output.old) effect) (sent (acted_of frames.new input_place.new output.new) result) }
     ensures err { OnErr result ((frames.new ≡ frames.old) × (input_place.new ≡ input_place.old) × (output.new ≡ output.old)) }
+    ensures stops { IfErr result (StopsAt effect) }
     ensures kept { FramesOf code.now frames.new }
 {
     match effect {

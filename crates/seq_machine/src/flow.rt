@@ -3,11 +3,12 @@ ghost use Rattle.std.specs.Prelude.{◌≡◌, ◌≤◌, ℕ, true, length, sli
 ghost use Rattle.std.specs.Option.{option_copied};
 ghost use Rattle.seq_machine.specs.Script.{Follows, Tells, sent};
 ghost use Rattle.seq_machine.specs.Values.{operands, may_hold, Holds, HaveTypes};
-ghost use Rattle.seq_machine.specs.Flow.{branched, may_stand, fit, receives, entry_registers, may_enter, enter, called, same_types, same_result, has_type, callee, called_through, result_value, is_result, returned, IsResult, IsEntry, IsEntryOf, IsReturn};
+ghost use Rattle.seq_machine.specs.Flow.{branched, switched, may_stand, fit, receives, entry_registers, may_enter, enter, called, same_types, same_result, has_type, callee, called_through, result_value, is_result, returned, IsResult, IsEntry, IsEntryOf, IsReturn};
 ghost use Rattle.seq_machine.specs.declared.state.Effect.TheVariants as effect;
 
 use crate::state::{Effect, Frame, Value};
 use crate::values::{is_of, is_type};
+use ir_code::cases::Cases;
 use ir_code::code::{Code, FunctionCode};
 use ir_code::op::{Operand, Scalar};
 use mem_image::fault::{Fault, Trap};
@@ -308,4 +309,13 @@ pub fn end<M: Mem>(
     }
     memory.end_frame(&frame.own);
     Ok(Effect::Back { value })
+}
+
+/// Takes the edge of a value, or the default.
+pub fn switch(frame: &Frame, value: Operand, default: u32, cases: &Cases) -> Result<Effect, Trap>
+    ensures { result ≡ switched frame.now value default cases.now }
+{
+    let value = frame.number(value)?;
+    let edge = cases.edge(value.bits()).unwrap_or(default);
+    Ok(Effect::Edge { edge })
 }

@@ -3,8 +3,12 @@
 
 pub mod accesses;
 pub mod acts;
+mod execute;
+pub mod externals;
 pub mod flow;
+pub mod machine;
 pub mod numbers;
+pub mod run;
 pub mod state;
 pub mod values;
 pub mod words;

@@ -1,6 +1,7 @@
-use Rattle.std.proofs.Common.{◌≡◌, slice_get}
-use Rattle.seq_machine.specs.Acts.{types_of, function_at, taken, top}
-use Rattle.seq_machine.proofs.Kept.{top_some, if_there, kept_next, kept_put, kept_put_if, kept_keep, kept_edge, kept_enter, edge_acted}
+use Rattle.std.proofs.Common.{◌≡◌, slice_get, Ok}
+use Rattle.seq_machine.specs.Acts.{types_of, function_at, taken, top, with_top}
+use Rattle.seq_machine.specs.Values.{then_}
+use Rattle.seq_machine.proofs.Kept.{top_some, if_there, kept_next, kept_put, kept_put_if, kept_keep, kept_edge, kept_enter, edge_acted, edge_stops}
 use Rattle.seq_machine.proofs.acts.act.Goals as goal
 
 pub take_edge-requires-clause-registers : goal.take_edge-requires-clause-registers
@@ -56,3 +57,9 @@ returns-in-Take-clause-kept c =
     let t = top_some c.args.frames.now c.requires.frames.filled in
     let h = rw c.in-Take.is at (c.requires.effect t.0 t.1) in
     rw (c.put_if-in-Take.ensures t.0 t.1) (kept_put_if c.args.code.now c.args.frames.now t.0 c.in-Take.to c.in-Take.value c.requires.frames t.1 h.0 h.1)
+
+pub returns-in-Edge-clause-stops : goal.returns-in-Edge-clause-stops
+returns-in-Edge-clause-stops c =
+    let t = top_some c.args.frames.now c.requires.frames.filled in
+    rw (c.in-Edge.is, c.going_on.ensures)
+    (edge_stops (then_ (taken c.args.function.now t.0 (slice_get c.args.function.now.edges c.in-Edge.edge)) (λ f'. Ok (with_top c.args.frames.now f'))) c.take_edge.new.frames c.take_edge.result c.in-Edge.edge (c.take_edge.ensures.taken t.0 t.1))

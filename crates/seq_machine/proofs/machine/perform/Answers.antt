@@ -1,0 +1,32 @@
+use Rattle.std.proofs.Common.{◌≡◌, Some, sym}
+use Rattle.seq_machine.specs.declared.state.Frame.{Frame}
+use Rattle.seq_machine.specs.Acts.{top, control_of, acted_of}
+use Rattle.seq_machine.specs.Script.{sent}
+use Rattle.seq_machine.specs.Step.{here}
+use Rattle.seq_machine.proofs.FrameLists.{same_some}
+use Rattle.seq_machine.proofs.Steps.{effect_of, here_of, here_same, performed, cut_off}
+use Rattle.seq_machine.proofs.machine.perform.Goals as goal
+
+pub act-requires-clause-effect : goal.act-requires-clause-effect
+act-requires-clause-effect g c = λ f e.
+    effect_of c.args.code.now c.args.function.now f c.args.op.now c.in-Ok.effect (c.requires.function f e) (c.requires.op f e) (c.requires.more f e) c.in-Ok.ensures.effect
+
+pub returns-in-Ok-clause-follows : goal.returns-in-Ok-clause-follows
+returns-in-Ok-clause-follows g c = λ f e.
+    let t : top c.args.frames.now ≡ Some c.at-frame.result.now = rw c.len.ensures at c.at-frame.ensures in
+    let same : c.at-frame.result.now ≡ f = same_some (top c.args.frames.now) c.at-frame.result.now f t e in
+    performed g.M.Mem.image g.M.Mem.relation c.args.code.now c.args.function.now f (control_of c.args.frames.now c.args.input_place.now c.args.output.now)
+    (here_of c.args.code.now c.args.function.now c.at-frame.result.now c.args.site c.args.input.now c.args.input_place.now)
+    (here c.args.code.now c.args.function.now f c.args.input.now c.args.input_place.now) c.args.op.now c.args.memory.now c.execute.new.memory
+    (here_same c.args.code.now c.args.function.now c.at-frame.result.now f c.args.site c.args.input.now c.args.input_place.now same (c.requires.site f e))
+    c.in-Ok.effect (sent (acted_of c.act.new.frames c.act.new.input_place c.act.new.output) c.act.result) c.in-Ok.ensures.follows (c.act.ensures.acted f e)
+
+pub returns-in-Err-clause-follows : goal.returns-in-Err-clause-follows
+returns-in-Err-clause-follows g c = λ f e.
+    let t : top c.args.frames.now ≡ Some c.at-frame.result.now = rw c.len.ensures at c.at-frame.ensures in
+    let same : c.at-frame.result.now ≡ f = same_some (top c.args.frames.now) c.at-frame.result.now f t e in
+    cut_off g.M.Mem.image g.M.Mem.relation c.args.code.now c.args.function.now f (control_of c.args.frames.now c.args.input_place.now c.args.output.now)
+    (here_of c.args.code.now c.args.function.now c.at-frame.result.now c.args.site c.args.input.now c.args.input_place.now)
+    (here c.args.code.now c.args.function.now f c.args.input.now c.args.input_place.now) c.args.op.now c.args.memory.now c.execute.new.memory
+    (here_same c.args.code.now c.args.function.now c.at-frame.result.now f c.args.site c.args.input.now c.args.input_place.now same (c.requires.site f e))
+    c.in-Err.fault c.in-Err.ensures.follows
