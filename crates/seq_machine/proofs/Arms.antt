@@ -1,15 +1,14 @@
 -- An instruction's arm as what the whole dispatch promises.
-use Rattle.std.proofs.Common.{◌≡◌, ℕ, List, Option, Result, Ok, Err, refl, OnErr}
+use Rattle.std.proofs.Common.{◌≡◌, List, Option, Result, Ok, Err, refl}
 use Rattle.std.specs.Prelude.{IfOk}
 use Rattle.ir_code.specs.declared.op.Scalar.{Scalar}
 use Rattle.mem_image.specs.declared.fault.Trap.{Trap as TrapWord}
 use Rattle.mem_image.specs.declared.fault.Fault.{Fault}
-use Rattle.mem_image.specs.declared.fault.Fault.TheVariants.{Trap, Check, Memory}
 use Rattle.mem_image.specs.Picture.{Picture}
 use Rattle.mem_image.specs.Calls.{Call, Reply}
 use Rattle.seq_machine.specs.declared.state.Effect.{Effect}
 use Rattle.seq_machine.specs.declared.state.Effect.TheVariants as effect
-use Rattle.seq_machine.specs.Script.{Script, tell, Follows, Tells}
+use Rattle.seq_machine.specs.Script.{tell, Follows, Tells}
 use Rattle.seq_machine.specs.Values.{Sets}
 use Rattle.seq_machine.specs.Flow.{IsReturn}
 use Rattle.seq_machine.specs.Step.{lifted}

@@ -1,13 +1,12 @@
 -- What follows from the calls of a tree.
-use Rattle.std.proofs.Common.{inl, inr, ◌≡◌, ℕ, Result, Ok, Err, refl, sym, ◌∙◌, ap, Option}
-use Rattle.mem_image.specs.declared.object.Pointer.{Pointer}
+use Rattle.std.proofs.Common.{inl, inr, ◌≡◌, Result, Ok, Err, refl}
 use Rattle.mem_image.specs.declared.fault.Trap.{Trap as TrapWord}
 use Rattle.mem_image.specs.declared.fault.CheckFault.{CheckFault}
 use Rattle.mem_image.specs.declared.fault.Fault.{Fault}
 use Rattle.mem_image.specs.declared.fault.Fault.TheVariants.{Trap, Check, Memory}
 use Rattle.mem_image.specs.Picture.{Picture, size_of}
 use Rattle.mem_image.specs.Calls.{Call, Reply, does, Fits, ImageAnswers}
-use Rattle.seq_machine.specs.Script.{Script, Gives, Stops, Sizes, Asks, outcome, tell, Follows, Answers, Tells, chain}
+use Rattle.seq_machine.specs.Script.{Script, Gives, Stops, Sizes, Asks, outcome, Follows, chain}
 
 -- an answer is that of an image, where it is no check and no lack of memory
 abbrev pub Agrees : {A : Type 0} → Result A TrapWord × Picture → Result A Fault → Picture → Type 0

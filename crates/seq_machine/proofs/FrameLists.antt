@@ -1,5 +1,5 @@
 -- The frames of a state, of which the top one changes.
-use Rattle.std.proofs.Common.{◌≡◌, ℕ, zero, suc, ◌+◌, ◌-◌, ◌<◌, ◌≤◌, ◌⊎◌, inl, inr, List, [], ◌∷◌, ◌++◌, length, get_or, take, drop, slice_get, slice_set, Option, Some, None, Result, Ok, Err, refl, sym, ◌∙◌, ap, subst, arith, append_assoc, drop-cons, add-one, length-set, length-append, OnErr}
+use Rattle.std.proofs.Common.{◌≡◌, ℕ, zero, suc, ◌+◌, ◌-◌, ◌<◌, ◌⊎◌, inl, inr, List, [], ◌∷◌, ◌++◌, length, get_or, take, drop, slice_get, slice_set, Option, Some, Result, Ok, Err, refl, sym, ◌∙◌, ap, subst, arith, append_assoc, drop-cons, add-one, length-set, length-append}
 use Rattle.std.proofs.lemmas.List.{length-take-le}
 use Rattle.std.proofs.lemmas.Option.{slice_get_within, slice_get-get_or}
 use Rattle.ir_code.specs.declared.op.Scalar.{Scalar}
@@ -10,7 +10,7 @@ use Rattle.mem_image.specs.declared.fault.Trap.{Trap}
 use Rattle.seq_machine.specs.declared.state.Value.{Value}
 use Rattle.seq_machine.specs.declared.state.Frame.{Frame}
 use Rattle.seq_machine.specs.Values.{then_, AreOf, Holds, IsOf}
-use Rattle.seq_machine.specs.Acts.{MovesHold, move_value, move_values, set_moves, with_top, without_top, top}
+use Rattle.seq_machine.specs.Acts.{move_value, move_values, set_moves, with_top, without_top, top}
 use Rattle.seq_machine.specs.Frames.{FrameOf, FramesOf, Awaits}
 
 pub set_set : {A : Type 0} (xs : List A) (i : ℕ) (x y : A) → slice_set (slice_set xs i x) i y ≡ slice_set xs i y

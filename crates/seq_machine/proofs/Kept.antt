@@ -1,5 +1,5 @@
 -- Each effect leaves frames of the code.
-use Rattle.std.proofs.Common.{◌≡◌, ℕ, zero, suc, ◌+◌, ◌-◌, ◌<◌, ◌≤◌, ◌^◌, List, [], ◌∷◌, ◌++◌, length, slice_get, slice_set, Option, Some, None, Result, Ok, Err, OnErr, OnOk, Bool, false, true, refl, sym, ◌∙◌, ap, subst, arith, length-set, ltb, take, length-append, append-nil}
+use Rattle.std.proofs.Common.{◌≡◌, ℕ, zero, suc, ◌+◌, ◌-◌, ◌<◌, ◌≤◌, ◌^◌, List, [], ◌∷◌, ◌++◌, length, slice_get, slice_set, Option, Some, None, Result, Ok, Err, OnErr, OnOk, Bool, false, true, refl, sym, ◌∙◌, ap, arith, ltb, take, length-append}
 use Rattle.std.specs.Prelude.{pos}
 use Rattle.std.proofs.lemmas.Option.{slice_get_within}
 use Rattle.ir_code.specs.declared.op.Scalar.{Scalar}
@@ -27,8 +27,8 @@ use Rattle.std.proofs.lemmas.List.{take-append-le, length-take-le, take_all}
 use Rattle.std.proofs.lemmas.Bool.Decides.{nat_tests}
 use Rattle.seq_machine.specs.Flow.{may_stand, Enters, IsResult, receives}
 use Rattle.seq_machine.specs.Acts.{blocks_of, types_of, ops_of, phis_of, function_at, block_at, op_at, top, with_top, next, put, put_if, put_result, result_register, resumed, resumed_top, without_top, entered, keep, on_top, control_of, acted_of, Stands}
-use Rattle.seq_machine.specs.Frames.{CodeOk, FrameOf, HasMore, FramesOf, Awaits, Calls, Receives, result_of, HoldsResult}
-use Rattle.seq_machine.proofs.FrameLists.{frames_set, frames_push, frames_below, are_set, same_some, get_take, set_same}
+use Rattle.seq_machine.specs.Frames.{CodeOk, FrameOf, HasMore, FramesOf, Awaits, Calls, result_of, HoldsResult}
+use Rattle.seq_machine.proofs.FrameLists.{frames_set, frames_push, are_set, same_some, get_take, set_same}
 
 some_at : {A : Type 0} (xs : List A) (i : ℕ) → i < length xs → slice_get xs i ≡ None → ⊥
 some_at [] i lt e = absurd (omega arith)

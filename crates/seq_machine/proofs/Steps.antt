@@ -7,7 +7,6 @@ use Rattle.mem_image.specs.declared.fault.Trap.TheVariants.{Unreachable}
 use Rattle.int_num.specs.Integer.{Integer}
 use Rattle.pv_base.specs.Outside.{Text}
 use Rattle.pv_base.specs.declared.place.Site.{Site}
-use Rattle.pv_base.specs.declared.want.Memory.{Memory as NoMemory}
 use Rattle.ir_code.specs.declared.op.Op.{Op}
 use Rattle.ir_code.specs.declared.op.Op.TheVariants as op
 use Rattle.ir_code.specs.declared.code.FunctionCode.{FunctionCode}
@@ -24,14 +23,14 @@ use Rattle.seq_machine.specs.declared.state.Effect.{Effect}
 use Rattle.seq_machine.specs.declared.state.Effect.TheVariants as effect
 use Rattle.seq_machine.specs.Script.{Script, Stops, Follows, Tells, tell, chain, sent}
 use Rattle.seq_machine.specs.Values.{Sets}
-use Rattle.seq_machine.specs.Acts.{Control, Acted, acted, acted_of, control_of, top, function_at, op_at, block_at, ops_of}
+use Rattle.seq_machine.specs.Acts.{Control, Acted, acted, acted_of, top, function_at, op_at, block_at}
 use Rattle.seq_machine.specs.Effects.{IsStop}
-use Rattle.seq_machine.specs.Frames.{FramesOf, HasMore, EffectOf}
+use Rattle.seq_machine.specs.Frames.{HasMore, EffectOf}
 use Rattle.seq_machine.specs.Meaning.{Here, meaning, is_inner}
 use Rattle.seq_machine.specs.Step.{EffectFor, here, script_in, site_at, site_of, script, has_next, finish, step, stands, shown, settled, counted, StepsTo, control, steps_from}
 use Rattle.seq_machine.specs.declared.state.Step.TheVariants.{Next, Ended, Failed, Trap as Trapped}
 use Rattle.seq_machine.specs.declared.state.End.TheVariants.{Ended as RunEnded, Trapped as RunTrapped}
-use Rattle.seq_machine.proofs.Follow.{follows_chain, follows_cut, follows_outcome, no_check, Agrees}
+use Rattle.seq_machine.proofs.Follow.{follows_chain, follows_cut, follows_outcome, no_check}
 
 sets_of : (code : Code) (g : FunctionCode) (f : Frame) (e : Effect) → function_at code f ≡ Some g → HasMore code f → Sets g.registers e → EffectOf code f e
 sets_of code g f effect.Next is more h = more

@@ -1,7 +1,5 @@
 -- The loops over the bytes of a word.
-use Rattle.std.proofs.Common.{◌≡◌, ℕ, zero, suc, ◌+◌, ◌-◌, ◌*◌, ◌/◌, ◌%◌, ◌^◌, ◌<◌, ◌≤◌, List, [], ◌∷◌, ◌++◌, length, take, drop, slice_set, get_or, Option, Some, None, refl, sym, ◌∙◌, ap, arith, append_assoc, append-nil, drop-cons, lit<, lit≤}
-use Rattle.std.specs.List.{All}
-use Rattle.std.specs.Prelude.{option_map}
+use Rattle.std.proofs.Common.{◌≡◌, ℕ, zero, suc, ◌+◌, ◌-◌, ◌*◌, ◌/◌, ◌%◌, ◌^◌, ◌<◌, ◌≤◌, List, [], ◌∷◌, ◌++◌, length, take, drop, slice_set, get_or, Some, None, refl, sym, ◌∙◌, ap, arith, append_assoc, append-nil, drop-cons, lit<}
 use Rattle.std.proofs.lemmas.List.{take_more_set}
 use Rattle.std.proofs.Math.Nat.{pow-le-pow_right, pow-suc}
 use Rattle.mem_image.specs.declared.object.Byte.{Byte}

@@ -1,6 +1,6 @@
 -- What the instructions on memory do (LLVM Language Reference, "Memory Access and Addressing Operations").
-use Rattle.std.specs.Prelude.{ℕ, ◌+◌, ◌≡◌, ◌==◌, ◌&&◌, nat_lt, nat_le, List, [], ◌∷◌, slice_get, Option, None, Some, Result, Ok, Err, Bool, true, false, ℤ, pos, ◌+ℤ◌, ◌*ℤ◌, int_le, if◌then◌else◌}
-use Rattle.int_num.specs.Integer.{Integer, signed}
+use Rattle.std.specs.Prelude.{ℕ, ◌==◌, ◌&&◌, List, [], ◌∷◌, slice_get, Option, None, Some, Result, Ok, Err, Bool, true, false, ℤ, pos, ◌+ℤ◌, ◌*ℤ◌, int_le, if◌then◌else◌}
+use Rattle.int_num.specs.Integer.{signed}
 use Rattle.int_num.specs.Operations.{modulo, residue}
 use Rattle.pv_base.specs.declared.place.Site.{Site}
 use Rattle.ir_code.specs.declared.op.Scalar.{Scalar}
@@ -13,14 +13,13 @@ use Rattle.mem_image.specs.declared.object.Pointer.TheVariants.{Null, Obj, Fun}
 use Rattle.mem_image.specs.declared.object.Kind.TheVariants.{Stack}
 use Rattle.mem_image.specs.declared.fault.Trap.{Trap}
 use Rattle.mem_image.specs.declared.fault.Trap.TheVariants.{Unreachable, Dead, Inbounds, Null as NullTrap}
-use Rattle.mem_image.specs.Calls.{Call, Reply, ReadWord, WriteWord, Make, Bytes, Made, Done}
-use Rattle.seq_machine.specs.declared.state.Value.{Value}
-use Rattle.seq_machine.specs.declared.state.Value.TheVariants.{Int, Pointer}
+use Rattle.mem_image.specs.Calls.{Reply, ReadWord, WriteWord, Make, Bytes, Made, Done}
+use Rattle.seq_machine.specs.declared.state.Value.TheVariants.{Pointer}
 use Rattle.seq_machine.specs.declared.state.Frame.{Frame}
 use Rattle.seq_machine.specs.declared.state.Effect.{Effect}
 use Rattle.seq_machine.specs.declared.state.Effect.TheVariants.{Next, Give, Keep}
 use Rattle.seq_machine.specs.Script.{Script, Gives, Stops, Sizes, Asks, tell, with, chain}
-use Rattle.seq_machine.specs.Values.{then_, where_, operand, number, pointer, given, is_some_type}
+use Rattle.seq_machine.specs.Values.{then_, operand, number, pointer, given, is_some_type}
 use Rattle.seq_machine.specs.Words.{word_length, stored, loaded}
 
 -- ---- load and store

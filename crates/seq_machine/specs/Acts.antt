@@ -1,9 +1,8 @@
 -- What an effect does to the frames, to the place in the input and to the output.
-use Rattle.std.specs.Prelude.{ℕ, ◌+◌, ◌-◌, ◌<◌, ◌≤◌, ◌≡◌, ◌==◌, nat_lt, pos, List, [], ◌∷◌, ◌++◌, length, take, slice_get, slice_set, Option, None, Some, Result, Ok, Err, Bool, true, false, if◌then◌else◌}
+use Rattle.std.specs.Prelude.{ℕ, ◌+◌, ◌-◌, ◌≡◌, ◌==◌, nat_lt, pos, List, [], ◌∷◌, ◌++◌, length, take, slice_get, slice_set, Option, None, Some, Result, Ok, Err, true, if◌then◌else◌}
 use Rattle.int_num.specs.Integer.{Integer}
 use Rattle.int_num.specs.Operations.{of_bits}
 use Rattle.pv_base.specs.Outside.{Text}
-use Rattle.pv_base.specs.declared.place.Site.{Site}
 use Rattle.ir_code.specs.declared.op.Scalar.{Scalar}
 use Rattle.ir_code.specs.declared.op.Op.{Op}
 use Rattle.ir_code.specs.declared.op.Op.TheVariants.{Call, CallPointer}

@@ -1,8 +1,8 @@
 -- What the functions outside a module do (the C library; LLVM Language Reference, "Standard C/C++ Library Intrinsics").
-use Rattle.std.specs.Prelude.{ℕ, zero, suc, ◌+◌, ◌-◌, ◌*◌, ◌<◌, ◌≡◌, ◌==◌, ◌%◌, ◌^◌, ◌&&◌, nat_lt, min, List, [], ◌∷◌, ◌++◌, length, map, slice_get, slice_set, Option, None, Some, Result, Ok, Err, Bool, true, false, ℤ, pos, neg_ℤ, if◌then◌else◌}
+use Rattle.std.specs.Prelude.{ℕ, zero, suc, ◌+◌, ◌*◌, ◌==◌, ◌%◌, ◌^◌, min, List, [], ◌∷◌, ◌++◌, length, map, slice_get, slice_set, Option, None, Some, Result, Ok, Err, Bool, true, false, pos, if◌then◌else◌}
 use Rattle.std.specs.Int.{int_wrapping_add, w64}
 use Rattle.int_num.specs.Integer.{Integer}
-use Rattle.int_num.specs.Operations.{of_bits, modulo, compare}
+use Rattle.int_num.specs.Operations.{of_bits, compare}
 use Rattle.int_num.specs.declared.ops.Pred.{Pred}
 use Rattle.int_num.specs.declared.ops.Pred.TheVariants.{Sgt, Slt, Ugt, Ult}
 use Rattle.pv_base.specs.Outside.{Text}
@@ -15,11 +15,11 @@ use Rattle.ir_code.specs.declared.op.Operand.{Operand}
 use Rattle.mem_image.specs.declared.object.Pointer.{Pointer as Address}
 use Rattle.mem_image.specs.declared.object.Pointer.TheVariants.{Null, Obj, Fun}
 use Rattle.mem_image.specs.declared.object.Byte.{Byte}
-use Rattle.mem_image.specs.declared.object.Byte.TheVariants.{Unset, Num, Ptr}
+use Rattle.mem_image.specs.declared.object.Byte.TheVariants.{Unset, Num}
 use Rattle.mem_image.specs.declared.object.Kind.TheVariants.{Heap}
 use Rattle.mem_image.specs.declared.fault.Trap.{Trap}
 use Rattle.mem_image.specs.declared.fault.Trap.TheVariants.{Unreachable, UnsetByte, ByteKind, Range, Format, Abort}
-use Rattle.mem_image.specs.Calls.{Call, Reply, ReadWord, CopyRange, Fill, Make, Release, Bytes, Made, Done}
+use Rattle.mem_image.specs.Calls.{Reply, ReadWord, CopyRange, Fill, Make, Release, Bytes, Made, Done}
 use Rattle.seq_calls.specs.declared.show.Arg.{Arg}
 use Rattle.seq_calls.specs.declared.show.Arg.TheVariants as arg
 use Rattle.seq_calls.specs.Format.{formatted, text_args}
@@ -27,10 +27,9 @@ use Rattle.seq_machine.specs.declared.state.Value.{Value}
 use Rattle.seq_machine.specs.declared.state.Value.TheVariants.{Int, Pointer}
 use Rattle.seq_machine.specs.declared.state.Frame.{Frame}
 use Rattle.seq_machine.specs.declared.state.Effect.{Effect}
-use Rattle.seq_machine.specs.declared.state.Effect.TheVariants.{Next, Give, Exit, Print, Take}
+use Rattle.seq_machine.specs.declared.state.Effect.TheVariants.{Next, Exit, Print, Take}
 use Rattle.seq_machine.specs.Script.{Script, Gives, Stops, Asks, tell, with, chain}
 use Rattle.seq_machine.specs.Values.{then_, where_, number, pointer, operands, accepts, given, giving}
-use Rattle.seq_machine.specs.Words.{has_unset}
 
 -- ---- objects
 

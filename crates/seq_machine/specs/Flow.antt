@@ -1,8 +1,6 @@
 -- Branches, calls and returns (LLVM Language Reference, "Terminator Instructions", "call").
-use Rattle.std.specs.Prelude.{ℕ, ◌+◌, ◌-◌, ◌<◌, ◌≡◌, ◌==◌, ◌&&◌, nat_lt, List, [], ◌∷◌, ◌++◌, length, map, replicate, slice_get, unwrap_or, Option, None, Some, Result, Ok, Err, Bool, true, false, not, if◌then◌else◌}
-use Rattle.int_num.specs.Integer.{Integer}
+use Rattle.std.specs.Prelude.{ℕ, ◌-◌, ◌<◌, ◌≡◌, ◌==◌, ◌&&◌, nat_lt, List, [], ◌∷◌, ◌++◌, length, map, replicate, slice_get, unwrap_or, Option, None, Some, Result, Ok, Err, Bool, true, false, not, if◌then◌else◌}
 use Rattle.ir_code.specs.declared.op.Scalar.{Scalar}
-use Rattle.ir_code.specs.declared.op.Scalar.TheVariants as scalar
 use Rattle.ir_code.specs.declared.op.Operand.{Operand}
 use Rattle.ir_code.specs.declared.code.BlockCode.{BlockCode}
 use Rattle.ir_code.specs.declared.code.FunctionCode.{FunctionCode}
@@ -12,11 +10,11 @@ use Rattle.mem_image.specs.declared.object.Pointer.{Pointer as Address}
 use Rattle.mem_image.specs.declared.object.Pointer.TheVariants.{Null, Obj, Fun}
 use Rattle.mem_image.specs.declared.fault.Trap.{Trap}
 use Rattle.mem_image.specs.declared.fault.Trap.TheVariants.{Unreachable, Callee}
-use Rattle.mem_image.specs.Calls.{Call, Reply, EndFrame}
+use Rattle.mem_image.specs.Calls.{EndFrame}
 use Rattle.seq_machine.specs.declared.state.Value.{Value}
 use Rattle.seq_machine.specs.declared.state.Frame.{Frame}
 use Rattle.seq_machine.specs.declared.state.Effect.{Effect}
-use Rattle.seq_machine.specs.declared.state.Effect.TheVariants.{Next, Give, Keep, Edge, Enter, Back, Exit, Print, Take}
+use Rattle.seq_machine.specs.declared.state.Effect.TheVariants.{Edge, Enter, Back}
 use Rattle.seq_machine.specs.Script.{Script, Gives, Stops, Asks, with}
 use Rattle.seq_machine.specs.Values.{then_, where_, operand, operands, number, pointer, is_of, IsOf, AreOf, is_type, is_some_type}
 use Rattle.seq_machine.specs.Numbers.{condition}

@@ -1,5 +1,5 @@
 -- The frames of a state of a module.
-use Rattle.std.specs.Prelude.{ℕ, ◌+◌, ◌-◌, ◌<◌, ◌≤◌, ◌≡◌, ◌^◌, pos, List, length, slice_get, Option, None, Some, true}
+use Rattle.std.specs.Prelude.{ℕ, ◌+◌, ◌<◌, ◌≤◌, ◌≡◌, ◌^◌, pos, List, length, slice_get, Option, None, Some, true}
 use Rattle.ir_code.specs.declared.op.Scalar.{Scalar}
 use Rattle.ir_code.specs.declared.op.Op.{Op}
 use Rattle.ir_code.specs.declared.op.Op.TheVariants.{Call, CallPointer}
@@ -14,7 +14,7 @@ use Rattle.seq_machine.specs.declared.state.Effect.{Effect}
 use Rattle.seq_machine.specs.declared.state.Effect.TheVariants.{Next, Give, Keep, Edge, Enter, Back, Exit, Print, Take}
 use Rattle.seq_machine.specs.Values.{AreOf, Holds, HoldsIf}
 use Rattle.seq_machine.specs.Flow.{receives, has_type, Enters, IsResult}
-use Rattle.seq_machine.specs.Acts.{blocks_of, types_of, ops_of, phis_of, function_at, block_at, op_at, top}
+use Rattle.seq_machine.specs.Acts.{blocks_of, types_of, ops_of, phis_of, function_at, block_at, op_at}
 
 -- what the code must have: the numbers of instructions are below 2^32
 abbrev pub CodeOk : Code → Type 0

@@ -1,19 +1,12 @@
 -- The meaning of each instruction, as one tree over the frame that it is in (LLVM Language Reference, "Instruction Reference").
-use Rattle.std.specs.Prelude.{ℕ, ◌+◌, ◌-◌, ◌*◌, ◌<◌, ◌≡◌, ◌==◌, ◌%◌, nat_lt, min, List, [], ◌∷◌, ◌++◌, length, slice_get, unwrap_or, Option, None, Some, Result, Ok, Err, Bool, true, false, pos, neg_ℤ, if◌then◌else◌}
-use Rattle.int_num.specs.Integer.{Integer}
-use Rattle.int_num.specs.Operations.{of_bits, modulo}
+use Rattle.std.specs.Prelude.{ℕ, Bool, true, false}
 use Rattle.pv_base.specs.Outside.{Text}
 use Rattle.pv_base.specs.declared.place.Site.{Site}
-use Rattle.ir_code.specs.declared.op.Scalar.{Scalar}
-use Rattle.ir_code.specs.declared.op.Scalar.TheVariants as scalar
 use Rattle.ir_code.specs.declared.op.Op.{Op}
 use Rattle.ir_code.specs.declared.op.Op.TheVariants as op
-use Rattle.ir_code.specs.declared.code.BlockCode.{BlockCode}
 use Rattle.ir_code.specs.declared.code.FunctionCode.{FunctionCode}
 use Rattle.ir_code.specs.declared.code.Code.{Code}
-use Rattle.mem_image.specs.declared.fault.Trap.{Trap}
 use Rattle.mem_image.specs.declared.fault.Trap.TheVariants.{Unreachable}
-use Rattle.seq_machine.specs.declared.state.Value.{Value}
 use Rattle.seq_machine.specs.declared.state.Frame.{Frame}
 use Rattle.seq_machine.specs.declared.state.Effect.{Effect}
 use Rattle.seq_machine.specs.declared.state.Effect.TheVariants.{Edge}

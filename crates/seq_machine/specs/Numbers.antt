@@ -1,6 +1,6 @@
 -- What the instructions on integers do, and the comparisons of pointers (LLVM Language Reference, "Binary Operations",
 -- "Conversion Operations", "Other Operations").
-use Rattle.std.specs.Prelude.{ℕ, ◌≡◌, ◌==◌, ◌&&◌, ◌<◌, nat_lt, nat_le, List, Option, None, Some, Result, Ok, Err, Bool, true, false, not, ℤ, int_lt, int_le, if◌then◌else◌}
+use Rattle.std.specs.Prelude.{ℕ, ◌==◌, ◌&&◌, nat_lt, nat_le, List, Result, Ok, Err, Bool, true, false, not, ℤ, int_lt, int_le, if◌then◌else◌}
 use Rattle.std.specs.Ordering.{int_eq}
 use Rattle.int_num.specs.Integer.{Integer}
 use Rattle.int_num.specs.Operations.{binary, cast, compare}

@@ -1,5 +1,5 @@
 -- One step of the sequential machine, and its runs.
-use Rattle.std.specs.Prelude.{ℕ, zero, suc, ◌+◌, ◌-◌, ◌<◌, ◌≤◌, ◌≡◌, ◌==◌, ◌&&◌, ◌||◌, not, nat_lt, List, [], ◌∷◌, ◌++◌, length, slice_get, Option, None, Some, Result, Ok, Err, Bool, true, false, if◌then◌else◌}
+use Rattle.std.specs.Prelude.{ℕ, zero, suc, ◌+◌, ◌≡◌, ◌||◌, not, nat_lt, length, Option, None, Some, Result, Ok, Err, Bool, if◌then◌else◌}
 use Rattle.int_num.specs.Integer.{Integer}
 use Rattle.pv_base.specs.Outside.{Text}
 use Rattle.pv_base.specs.declared.place.Site.{Site}
@@ -9,7 +9,6 @@ use Rattle.ir_code.specs.declared.op.Op.TheVariants as op
 use Rattle.ir_code.specs.declared.code.BlockCode.{BlockCode}
 use Rattle.ir_code.specs.declared.code.FunctionCode.{FunctionCode}
 use Rattle.ir_code.specs.declared.code.Code.{Code}
-use Rattle.ir_code.specs.declared.op.Scalar.{Scalar}
 use Rattle.pv_base.specs.declared.external.External.{External}
 use Rattle.pv_base.specs.declared.external.External.TheVariants as external
 use Rattle.mem_image.specs.declared.fault.Trap.{Trap as TrapWord}
@@ -17,7 +16,6 @@ use Rattle.mem_image.specs.declared.fault.Trap.TheVariants.{Unreachable}
 use Rattle.mem_image.specs.declared.fault.Fault.{Fault}
 use Rattle.mem_image.specs.declared.fault.Fault.TheVariants.{Trap, Check, Memory}
 use Rattle.mem_image.specs.Picture.{Picture}
-use Rattle.seq_machine.specs.declared.state.Value.{Value}
 use Rattle.seq_machine.specs.declared.state.Frame.{Frame}
 use Rattle.seq_machine.specs.declared.state.State.{State}
 use Rattle.seq_machine.specs.declared.state.Effect.{Effect}
@@ -28,7 +26,6 @@ use Rattle.seq_machine.specs.declared.state.End.{End}
 use Rattle.seq_machine.specs.declared.state.End.TheVariants.{Ended as RunEnded, Trapped as RunTrapped, Spent}
 use Rattle.seq_machine.specs.Script.{Script, Stops, tell, chain, outcome}
 use Rattle.seq_machine.specs.Values.{Sets}
-use Rattle.seq_machine.specs.Effects.{MayStop}
 use Rattle.seq_machine.specs.Flow.{IsEntry, IsEntryOf, IsReturn}
 use Rattle.seq_machine.specs.Acts.{Control, Acted, acted, control_of, top, function_at, block_at, op_at, ops_of}
 use Rattle.seq_machine.specs.Frames.{FramesOf}

@@ -1,6 +1,5 @@
 -- What an operand gives in a frame, and what a register may hold.
-use Rattle.std.specs.Prelude.{ℕ, ◌≡◌, ◌==◌, ◌&&◌, ◌<◌, ◌≤◌, ◌-◌, ◌^◌, nat_lt, nat_le, nat_eq, List, [], ◌∷◌, ◌++◌, length, map, replicate, slice_get, Option, None, Some, is_some, Result, Ok, Err, Bool, true, false, ℤ, pos, if◌then◌else◌}
-use Rattle.std.specs.Ordering.{int_eq}
+use Rattle.std.specs.Prelude.{ℕ, ◌≡◌, ◌==◌, ◌<◌, ◌≤◌, List, [], ◌∷◌, length, slice_get, Option, None, Some, Result, Ok, Err, Bool, true, false, pos, if◌then◌else◌}
 use Rattle.int_num.specs.Integer.{Integer, HasWidth}
 use Rattle.int_num.specs.Operations.{of_bits}
 use Rattle.int_num.specs.declared.ops.Poison.{Poison}

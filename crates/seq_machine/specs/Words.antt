@@ -1,6 +1,5 @@
 -- A value as bytes of memory, and bytes as a value (LLVM Language Reference, "Memory Access and Addressing Operations").
-use Rattle.std.specs.Prelude.{ℕ, zero, suc, ◌+◌, ◌*◌, ◌/◌, ◌%◌, ◌^◌, ◌≡◌, ◌==◌, ◌&&◌, ◌<◌, nat_lt, List, [], ◌∷◌, length, Option, None, Some, option_map, Result, Ok, Err, Bool, true, false, if◌then◌else◌}
-use Rattle.int_num.specs.Integer.{Integer}
+use Rattle.std.specs.Prelude.{ℕ, zero, suc, ◌+◌, ◌*◌, ◌/◌, ◌%◌, ◌^◌, ◌==◌, ◌&&◌, nat_lt, List, [], ◌∷◌, Option, None, Some, option_map, Result, Ok, Err, Bool, true, false, if◌then◌else◌}
 use Rattle.int_num.specs.Operations.{of_bits}
 use Rattle.ir_code.specs.declared.op.Scalar.{Scalar}
 use Rattle.ir_code.specs.declared.op.Scalar.TheVariants as scalar

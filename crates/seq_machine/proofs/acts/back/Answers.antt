@@ -1,5 +1,4 @@
-use Rattle.std.proofs.Common.{◌≡◌, ◌<◌, ◌-◌, Some, length, get_or, arith, sym, ◌∙◌, ap}
-use Rattle.std.proofs.lemmas.Option.{slice_get-get_or}
+use Rattle.std.proofs.Common.{◌<◌, length, arith}
 use Rattle.seq_machine.proofs.FrameLists.{frames_below}
 use Rattle.seq_machine.proofs.Kept.{caller_waits, top_some}
 use Rattle.seq_machine.proofs.acts.back.Goals as goal

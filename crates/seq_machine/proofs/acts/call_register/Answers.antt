@@ -1,5 +1,5 @@
-use Rattle.std.proofs.Common.{◌≡◌, Some, ◌∙◌, ap, sym}
-use Rattle.seq_machine.specs.Acts.{top, result_register, op_at}
+use Rattle.std.proofs.Common.{◌≡◌, Some}
+use Rattle.seq_machine.specs.Acts.{top}
 use Rattle.seq_machine.proofs.FrameLists.{same_some}
 use Rattle.seq_machine.proofs.acts.call_register.Goals as goal
 

@@ -1,4 +1,4 @@
-use Rattle.std.proofs.Common.{◌≡◌, ◌∙◌, ap}
+use Rattle.std.proofs.Common.{◌∙◌, ap}
 use Rattle.seq_machine.proofs.Kept.{put_back}
 use Rattle.seq_machine.proofs.acts.keep.Goals as goal
 

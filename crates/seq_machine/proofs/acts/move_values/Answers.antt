@@ -1,6 +1,4 @@
 use Rattle.std.proofs.Common.{◌≡◌, ◌<◌, ◌+◌, ◌++◌, ◌∷◌, [], length, get_or, ◌∙◌, sym, ap, length-append}
-use Rattle.ir_code.specs.declared.code.Move.{Move}
-use Rattle.seq_machine.specs.declared.state.Value.{Value}
 use Rattle.seq_machine.proofs.FrameLists.{hold_more, moves_on}
 use Rattle.seq_machine.proofs.acts.move_values.Goals as goal
 

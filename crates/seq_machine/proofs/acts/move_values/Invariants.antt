@@ -1,4 +1,4 @@
-use Rattle.std.proofs.Common.{◌≡◌, ◌<◌, ℕ, drop, length, slice_get, Some}
+use Rattle.std.proofs.Common.{◌≡◌, ℕ, drop, length, slice_get, Some}
 use Rattle.ir_code.specs.declared.code.Move.{Move}
 use Rattle.seq_machine.specs.declared.state.Value.{Value}
 use Rattle.seq_machine.specs.Values.{Holds}

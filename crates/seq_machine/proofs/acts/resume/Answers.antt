@@ -1,4 +1,4 @@
-use Rattle.std.proofs.Common.{◌≡◌, ◌∙◌, ap}
+use Rattle.std.proofs.Common.{◌∙◌, ap}
 use Rattle.seq_machine.specs.Acts.{types_of, function_at, with_top, put_result}
 use Rattle.seq_machine.proofs.Kept.{kept_resumed, resumed_is, more_fits, result_there}
 use Rattle.seq_machine.proofs.acts.resume.Goals as goal

@@ -1,4 +1,4 @@
-use Rattle.std.proofs.Common.{length, ◌-◌, ap}
+use Rattle.std.proofs.Common.{◌-◌, ap}
 use Rattle.seq_machine.proofs.FrameLists.{with_set}
 use Rattle.seq_machine.proofs.acts.take_top.Goals as goal
 

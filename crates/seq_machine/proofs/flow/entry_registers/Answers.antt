@@ -1,5 +1,3 @@
-use Rattle.std.proofs.Common.{◌≡◌, ◌∙◌, Some}
-use Rattle.std.proofs.Common.{slice_set}
 use Rattle.seq_machine.proofs.Operands.{entry_more}
 use Rattle.seq_machine.proofs.flow.entry_registers.Goals as goal
 

@@ -1,7 +1,5 @@
-use Rattle.std.proofs.Common.{◌≡◌, ◌+◌, drop, slice_get, sym, ◌∙◌, arith, add-one, suc, false, true}
-use Rattle.std.specs.Prelude.{◌&&◌}
+use Rattle.std.proofs.Common.{◌≡◌, slice_get, sym, ◌∙◌, arith, add-one, false, true}
 use Rattle.seq_machine.specs.Values.{may_hold, Holds}
-use Rattle.seq_machine.specs.Flow.{fit}
 use Rattle.seq_machine.proofs.Operands.{fit_step, fit_more, have_types}
 use Rattle.seq_machine.proofs.flow.fit.Goals as goal
 

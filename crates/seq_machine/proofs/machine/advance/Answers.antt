@@ -1,6 +1,5 @@
-use Rattle.std.proofs.Common.{◌≡◌, ◌<◌, ◌+◌, length, slice_get, Some, true, false, sym, ◌∙◌, refl}
-use Rattle.seq_machine.specs.Acts.{top, control_of, function_at, block_at, op_at}
-use Rattle.seq_machine.specs.Step.{has_next}
+use Rattle.std.proofs.Common.{◌≡◌, Some, true, false, refl}
+use Rattle.seq_machine.specs.Acts.{top, control_of}
 use Rattle.seq_machine.proofs.FrameLists.{same_some}
 use Rattle.seq_machine.proofs.Steps.{script_is, script_stops, block_is, op_is, next_is, more_of}
 use Rattle.seq_machine.proofs.machine.advance.Goals as goal

@@ -1,5 +1,4 @@
-use Rattle.std.proofs.Common.{◌≡◌, Some, sym}
-use Rattle.seq_machine.specs.declared.state.Frame.{Frame}
+use Rattle.std.proofs.Common.{◌≡◌, Some}
 use Rattle.seq_machine.specs.Acts.{top, control_of, acted_of}
 use Rattle.seq_machine.specs.Script.{sent}
 use Rattle.seq_machine.specs.Step.{here}

@@ -1,7 +1,5 @@
-use Rattle.std.proofs.Common.{◌≡◌, ◌<◌, ◌+◌, ◌^◌, length, slice_get, Some, arith, sym}
+use Rattle.std.proofs.Common.{◌≡◌, Some, arith}
 use Rattle.seq_machine.specs.Acts.{top}
-use Rattle.seq_machine.specs.Frames.{FrameOf}
-use Rattle.seq_machine.specs.Step.{site_of}
 use Rattle.seq_machine.proofs.Steps.{site_is}
 use Rattle.seq_machine.proofs.machine.site.Goals as goal
 

@@ -1,4 +1,3 @@
-use Rattle.std.proofs.Common.{◌≡◌, refl, Some, ap}
 use Rattle.seq_machine.specs.Step.{script, control}
 use Rattle.seq_machine.proofs.Steps.{step_follows, step_steps}
 use Rattle.seq_machine.proofs.machine.step.Goals as goal

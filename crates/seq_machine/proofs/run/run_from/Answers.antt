@@ -1,4 +1,4 @@
-use Rattle.std.proofs.Common.{◌≡◌, ◌<◌, ◌-◌, sym, ◌∙◌, arith}
+use Rattle.std.proofs.Common.{◌<◌, ◌-◌, sym, ◌∙◌, arith}
 use Rattle.seq_machine.proofs.Steps.{run_trapped, failed_never}
 use Rattle.seq_machine.proofs.run.run_from.Goals as goal
 

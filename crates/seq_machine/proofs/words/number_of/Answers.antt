@@ -1,4 +1,4 @@
-use Rattle.std.proofs.Common.{◌≡◌, ◌+◌, ◌*◌, ◌-◌, ◌<◌, ◌≤◌, ◌^◌, length, arith, sym, suc, lit<}
+use Rattle.std.proofs.Common.{◌≡◌, ◌-◌, length, arith, sym, suc, lit<}
 use Rattle.mem_image.specs.declared.object.Byte.TheVariants.{Unset}
 use Rattle.seq_machine.proofs.WordLoops.{byte_fits, byte_more, number_more, no_number}
 use Rattle.seq_machine.proofs.words.number_of.Goals as goal

@@ -1,5 +1,4 @@
-use Rattle.std.proofs.Common.{◌≡◌, ◌-◌, ◌++◌, ◌<◌, length, length-set, take, arith, sym, ◌∙◌}
-use Rattle.mem_image.specs.Picture.{IsWord}
+use Rattle.std.proofs.Common.{◌≡◌, length-set, take, arith, ◌∙◌}
 use Rattle.seq_machine.specs.Words.{number_bytes}
 use Rattle.seq_machine.proofs.WordLoops.{word_more, is_word, word_done}
 use Rattle.seq_machine.proofs.words.number_word.Goals as goal

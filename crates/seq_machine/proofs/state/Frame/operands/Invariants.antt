@@ -1,4 +1,4 @@
-use Rattle.std.proofs.Common.{◌≡◌, drop, vec_len}
+use Rattle.std.proofs.Common.{◌≡◌, drop}
 use Rattle.seq_machine.specs.Values.{operands}
 use Rattle.seq_machine.proofs.Operands.{before}
 use Rattle.seq_machine.proofs.state.Frame.operands.Given as goal
