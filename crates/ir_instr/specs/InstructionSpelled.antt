@@ -4,7 +4,6 @@ use Rattle.std.proofs.Common.{◌⊎◌}
 use Rattle.pv_base.specs.declared.name.Name.{Name}
 use Rattle.int_num.specs.declared.ops.Flags.{Flags}
 use Rattle.ir_tree.specs.declared.instruction.Operand.{Operand}
-use Rattle.ir_tree.specs.declared.instruction.Operand.TheVariants as operand
 use Rattle.ir_tree.specs.declared.instruction.Argument.{Argument}
 use Rattle.ir_tree.specs.declared.instruction.Arm.{Arm}
 use Rattle.ir_tree.specs.declared.instruction.Case.{Case}

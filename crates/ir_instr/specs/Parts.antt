@@ -1,21 +1,16 @@
 -- The parts of which instructions are made: operands and types. What a constant of a type is, is given.
 use Rattle.std.specs.Prelude.{Bool, true, false, nat_eq, if◌then◌else◌, [], ◌∷◌, Option, None, is_some, option_and_then, Result, Ok, Err, codes}
 use Rattle.pv_base.specs.declared.name.Name.{Name}
-use Rattle.ir_lex.specs.declared.token.TokenKind.{TokenKind}
-use Rattle.ir_lex.specs.declared.token.TokenKind.TheVariants as kind
 use Rattle.ir_lex.specs.declared.token.Cause.{Cause}
 use Rattle.ir_lex.specs.declared.token.Cause.TheVariants as causes
 use Rattle.ir_tree.specs.declared.instruction.Operand.{Operand}
-use Rattle.ir_tree.specs.declared.instruction.Operand.TheVariants as operand
 use Rattle.ir_tree.specs.declared.instruction.Argument.{Argument}
 use Rattle.ir_tree.specs.declared.layout.Layout.{Layout}
 use Rattle.ir_tree.specs.Layouts.{layout_with}
 use Rattle.ir_tree.specs.Trees.{TypeV, IntV, PtrV, ConstantV}
 use Rattle.ir_text.specs.declared.fault.Fault.TheVariants.{Ended}
-use Rattle.ir_text.specs.Tokens.{TokenV}
 use Rattle.ir_text.specs.Operands.{operand_at}
 use Rattle.ir_text.specs.Reading.{Reader, ◌>>=◌, wrong, Meaning, token_by}
-use Rattle.ir_text.specs.Choice.{choose}
 use Rattle.ir_text.specs.Leaves.{word_at, local_at}
 use Rattle.ir_text.specs.Types.{Known, register_type, type_at}
 

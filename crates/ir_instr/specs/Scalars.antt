@@ -1,5 +1,5 @@
 -- The types of registers, as code has them.
-use Rattle.std.specs.Prelude.{◌≡◌, ℕ, List, Result, Ok, Err}
+use Rattle.std.specs.Prelude.{Result, Ok, Err}
 use Rattle.ir_lex.specs.declared.token.Cause.{Cause}
 use Rattle.ir_tree.specs.Trees.{TypeV, IntV, PtrV}
 use Rattle.ir_instr.specs.declared.parts.Scalar.{Scalar}

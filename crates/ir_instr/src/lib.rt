@@ -1,6 +1,8 @@
 //! Instructions of module text.
 #![tactic(auto)]
 
-pub mod flags;
+pub mod casts;
+pub mod control;
+pub mod memory;
 pub mod parts;
 pub mod words;

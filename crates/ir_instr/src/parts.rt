@@ -137,6 +137,22 @@ pub fn integer_type(cursor: &mut Cursor<'_>) -> Result<Scalar, ReadEnd>
     }
 }
 
+/// Whether a token is this type, or why it is not.
+pub fn fixed_scalar(lexeme: &Lexeme<'_>, of: Scalar) -> Result<(), Cause>
+    ensures { result ≡ spec.fixed_type (type_of of) lexeme.now }
+{
+    match scalar_of(lexeme) {
+        Ok(found) => {
+            if is_same(of, found) {
+                Ok(())
+            } else {
+                Err(Cause::Operand)
+            }
+        }
+        Err(cause) => Err(cause),
+    }
+}
+
 /// Reads this type, which the form or an earlier type fixes.
 #[tactic(auto, unfolding(ir_text::specs::Reading::token_by))]
 pub fn fixed_type(cursor: &mut Cursor<'_>, of: Scalar) -> Result<(), ReadEnd>
@@ -145,14 +161,8 @@ pub fn fixed_type(cursor: &mut Cursor<'_>, of: Scalar) -> Result<(), ReadEnd>
 {
     match cursor.next() {
         None => Err(ReadEnd::Bad(Fault::Ended)),
-        Some(lexeme) => match scalar_of(&lexeme) {
-            Ok(found) => {
-                if is_same(of, found) {
-                    Ok(())
-                } else {
-                    Err(bad(cursor.alloc(), &lexeme, Cause::Operand))
-                }
-            }
+        Some(lexeme) => match fixed_scalar(&lexeme, of) {
+            Ok(()) => Ok(()),
             Err(cause) => Err(bad(cursor.alloc(), &lexeme, cause)),
         },
     }

@@ -1,1 +1,0 @@
-//! Flags behind the word of an operation.
