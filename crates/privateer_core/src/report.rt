@@ -4,8 +4,8 @@ ghost use Rattle.std.specs.Fmt.{signed_decimal};
 ghost use Rattle.privateer_core.specs.Report.{trap_word, name_text, function_text, site_text, end_line, report_text};
 
 use crate::machine::{End, Outcome, Trap};
-use int_num::sign::signed;
 use first_tree::tree::Module;
+use int_num::sign::signed;
 use itoa::Buffer;
 use pv_base::bytes::Bytes;
 use pv_base::name::Name;

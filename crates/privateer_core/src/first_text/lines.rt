@@ -6,8 +6,8 @@ ghost use Rattle.privateer_core.specs.FirstText.{AddsArm, action_in, arm_at, arm
 use crate::first_text::names::Names;
 use crate::first_text::words::{after_front, before_end, label_in, pieces, width_in, word};
 use crate::number::integer;
-use int_num::ops::{BinOp, Flags, Pred};
 use first_tree::tree::{Arm, Instruction as Tree, Operand, Phi as PhiTree};
+use int_num::ops::{BinOp, Flags, Pred};
 use pv_base::bytes::Bytes;
 use pv_base::list::List;
 use pv_base::name::Name;

@@ -5,8 +5,8 @@ ghost use Rattle.std.specs.Str.{bytes_eq};
 ghost use Rattle.privateer_core.specs.FirstText.{Leaves, block_in, definition_in, definition_of, first_names, is_known, label as label_definition, number_in, register_in, result_width, texts, value as value_definition, with_definition, with_lines, words_of};
 
 use crate::first_text::words::{after_front, label_in, name_in, pieces, width_in, word};
-use indexmap::IndexSet;
 use first_tree::tree::Register;
+use indexmap::IndexSet;
 use pv_base::bytes::Bytes;
 use pv_base::list::List;
 use pv_base::name::Name;

@@ -6,8 +6,8 @@ ghost use Rattle.privateer_core.specs.Effects.{Tells};
 ghost use Rattle.privateer_core.specs.Machine.{operand, integer, integer_in, phi_value, phi_values, set_phis};
 
 use crate::machine::{Fault, Frame, Trap, Value};
-use int_num::int::Int;
 use first_tree::tree::{Arm, Operand, Phi};
+use int_num::int::Int;
 use pv_base::list::List;
 use std::alloc::Global;
 

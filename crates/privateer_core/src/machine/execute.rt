@@ -10,11 +10,11 @@ ghost use Rattle.privateer_core.specs.declared.machine.Value.TheVariants.{Int as
 
 use crate::machine::edge::{phi_values, read, read_integer};
 use crate::machine::{Change, Effect, Fault, Frame, Trap, Value};
+use first_tree::tree::{Instruction, Module, Operand};
 use int_num::binary::binary;
 use int_num::compare::compare;
 use int_num::int::Int;
 use int_num::ops::{BinOp, Flags, Poison, Pred};
-use first_tree::tree::{Instruction, Module, Operand};
 
 /// The instruction at which the frame stands.
 fn fetch(code: &Module, frame: &Frame) -> Instruction

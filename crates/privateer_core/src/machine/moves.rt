@@ -6,8 +6,8 @@ ghost use Rattle.privateer_core.specs.Typing.{ChangeOf, EdgeOf};
 
 use crate::machine::edge::{integer_in, set_phis};
 use crate::machine::{Change, Frame, Value};
-use int_num::int::Int;
 use first_tree::tree::Module;
+use int_num::int::Int;
 use pv_base::list::List;
 
 /// The frame goes to its next instruction.
