@@ -22,3 +22,6 @@ pub mod NestedSteps
 pub mod NestedTurns
 pub mod Widths
 pub mod OperandLaws
+pub mod LaidOut
+pub mod MemoryTypeLaws
+pub mod Bodies

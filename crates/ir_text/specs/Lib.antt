@@ -9,6 +9,7 @@ pub mod Tails
 pub mod Trailing
 pub mod Types
 pub mod Named
+pub mod MemoryTypes
 pub mod Nested
 pub mod Constants
 pub mod Operands

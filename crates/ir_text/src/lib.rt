@@ -4,7 +4,9 @@
 pub mod constants;
 pub mod cursor;
 pub mod fault;
+pub mod layouts;
 pub mod leaves;
+pub mod memory_types;
 pub mod named;
 pub mod names;
 pub mod nested;
