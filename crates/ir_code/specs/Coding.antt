@@ -1,14 +1,16 @@
 -- A module with its names resolved.
 use Rattle.std.specs.Prelude.{ℕ, List, map, Bool, false, Option, Some, None, option_map, option_and_then, slice_get, position, length, codes, if◌then◌else◌}
 use Rattle.std.specs.List.{flat_map, range_with_len}
+use Rattle.std.specs.Str.{bytes_eq}
 use Rattle.pv_base.specs.Outside.{Text}
+use Rattle.pv_base.specs.declared.name.Name.{Name}
+use Rattle.pv_base.specs.declared.name.Name.TheVariants.{Named, Numbered}
 use Rattle.ir_tree.specs.declared.items.Function.{Function}
 use Rattle.ir_tree.specs.declared.items.Block.{Block}
 use Rattle.ir_tree.specs.Table.{Table}
 use Rattle.ir_tree.specs.Modules.{Items, layout_in}
 use Rattle.ir_tree.specs.Trees.{PtrV, ConstantV, IntegerC, NullC, ZeroC, TextC, ArrayC, StructC, NameC, AddressC}
 use Rattle.ir_tree.specs.Naming.{name_at, constant_at}
-use Rattle.ir_tree.specs.Rules.{is_named}
 use Rattle.ir_code.specs.declared.op.Scalar.{Scalar}
 use Rattle.ir_code.specs.declared.code.FunctionCode.{FunctionCode}
 use Rattle.ir_code.specs.declared.code.Code.{Code}
@@ -72,6 +74,11 @@ function_of m t f =
       external = external_of (linkage_of m.names f);
       declared = f.declared;
     }
+
+-- the name is spelled by these bytes
+abbrev pub is_named : Text → Name → Bool
+is_named bytes (Named own) = bytes_eq own bytes
+is_named bytes (Numbered n) = false
 
 -- a definition of `main`
 abbrev pub is_main : Table → Function ℕ ℕ ℕ → Bool

@@ -1,5 +1,6 @@
 //! Functions and modules with their names resolved.
 ghost use Rattle.std.specs.Prelude.{◌≡◌, ◌≤◌, ◌^◌, IfOk, map, length, position};
+ghost use Rattle.ir_code.specs.Coding.{is_named};
 ghost use Rattle.ir_code.specs.Tables.{linkage_of};
 
 use crate::functions::function_of;
@@ -7,11 +8,11 @@ use crate::lookups::Lookups;
 use crate::made::lookups;
 use crate::op::{Op, Operand, Scalar};
 use ir_tree::items::Function;
-use ir_tree::names::is_named;
 use ir_tree::table::Names;
 use ir_tree::whole::Module;
 use pv_base::external::External;
 use pv_base::list::List;
+use pv_base::name::Name;
 use pv_base::want::Memory;
 use std::alloc::Global;
 
@@ -101,6 +102,16 @@ fn functions_of(
         all.push(code)?;
     }
     Ok(all)
+}
+
+/// Whether the name is spelled by these bytes.
+fn is_named(bytes: &[u8], name: &Name) -> bool
+    ensures { result ≡ is_named bytes.now name.now }
+{
+    match name {
+        Name::Named(own) => own.as_slice() == bytes,
+        Name::Numbered(_) => false,
+    }
 }
 
 /// A definition of `main`.
