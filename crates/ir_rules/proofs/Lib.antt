@@ -11,3 +11,4 @@ pub mod DefiningLemmas
 pub mod ShownLemmas
 pub mod GivenLemmas
 pub mod MeetingLemmas
+pub mod CallLemmas

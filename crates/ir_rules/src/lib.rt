@@ -7,6 +7,7 @@ pub mod classes;
 pub mod constants;
 pub mod defining;
 pub mod fault;
+pub mod fitting;
 pub mod flags;
 pub mod forms;
 pub mod given;
