@@ -12,3 +12,5 @@ pub mod ShownLemmas
 pub mod GivenLemmas
 pub mod MeetingLemmas
 pub mod CallLemmas
+pub mod EdgeLemmas
+pub mod OuterLemmas
