@@ -11,3 +11,6 @@ pub mod DefiningLemmas
 pub mod ShownLemmas
 pub mod GivenLemmas
 pub mod MeetingLemmas
+pub mod CallLemmas
+pub mod EdgeLemmas
+pub mod OuterLemmas

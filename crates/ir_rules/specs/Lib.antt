@@ -13,3 +13,5 @@ pub mod Reading
 pub mod Checked
 pub mod Heads
 pub mod Classes
+pub mod Outer
+pub mod Edges

@@ -7,11 +7,12 @@ ghost use Rattle.ir_rules.specs.Seen.{seen};
 ghost use Rattle.ir_rules.specs.Forms.{uses};
 ghost use Rattle.ir_rules.specs.Defining.{defined, is_label};
 ghost use Rattle.ir_rules.specs.Constants.{is_integer};
-ghost use Rattle.ir_rules.specs.Causes.{operand_known, all_names_known, use_fits};
+ghost use Rattle.ir_rules.specs.Causes.{operand_known, all_names_known, use_fits, all_types_fit};
 ghost use Rattle.ir_rules.specs.Heads.{shown_use, AreTables};
 
 use crate::callees::calls_known;
 use crate::defining::is_label;
+use crate::fitting::form_fits;
 use crate::forms::uses;
 use crate::given::{Defined, Use};
 use crate::labels::{integer_types, sources, targets};
@@ -103,4 +104,38 @@ fn are_integers(names: &Names, types: &[TypeId]) -> bool
     ensures { result ≡ list_all (λ k. is_integer (type_at names.now k)) types.now }
 {
     types.iter().all(|k| is_integer(names, *k))
+}
+
+fn all_three(a: bool, b: bool, c: bool) -> bool
+    ensures { result ≡ (a && b && c) }
+{
+    a && b && c
+}
+
+/// Whether each operand is of the type that is needed, and the form has what it asks.
+#[tactic(auto, using(crate::proofs::MeetingLemmas::types_are))]
+pub fn types_fit(
+    alloc: Global,
+    tree: &Module,
+    tables: &Tables,
+    function: &Function,
+    all: &[Defined],
+    instruction: &Instruction,
+) -> Result<bool, Memory>
+    requires tables { AreTables tree.now tables.now }
+    requires all { all.now ≡ defined function.now }
+    ensures { IfOk result (λ b. b ≡ all_types_fit (seen tree.now) (shown_function tree.now.names function.now) (shown tree.now.names instruction.now)) }
+{
+    let uses = uses(alloc, instruction)?;
+    let types = integer_types(alloc, instruction)?;
+    let form = form_fits(
+        alloc,
+        tree,
+        tables.classes.as_slice(),
+        function,
+        instruction,
+    )?;
+    let operands = uses_fit(tree, tables, function, all, uses.as_slice());
+    let integers = are_integers(tree.names(), types.as_slice());
+    Ok(all_three(operands, integers, form))
 }

@@ -61,7 +61,14 @@ pub fn operand_known(
     }
 }
 
-fn is_of(tree: &Module, classes: &[usize], together: &[bool], of: Given, number: ConstantId) -> bool
+/// Whether a constant is one of a type.
+pub fn is_of(
+    tree: &Module,
+    classes: &[usize],
+    together: &[bool],
+    of: Given,
+    number: ConstantId,
+) -> bool
     requires classes { AreClasses tree.now.names classes.now }
     requires together { AreFlags tree.now.names (holds_together (seen tree.now)) together.now }
     ensures { result ≡ is_of (seen tree.now) (given_type (shown_given tree.now.names of)) (constant_at tree.now.names number) }

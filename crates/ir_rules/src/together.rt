@@ -79,7 +79,7 @@ fn all_fit(tree: &Module, classes: &[usize], flags: &[bool], elements: &[Element
 }
 
 /// Whether indices do not lead into a type that has no such parts.
-fn agrees(walk: Walk) -> bool
+pub fn agrees(walk: Walk) -> bool
     ensures { (t : _) → result ≡ agrees (shown_walk t walk) }
 {
     match walk {

@@ -1,0 +1,222 @@
+//! The types of calls, and what the form of an instruction asks beyond its operands.
+ghost use Rattle.std.specs.Prelude.{◌≡◌, map, option_map, IfOk};
+ghost use Rattle.ir_tree.specs.Naming.{name_at, type_at};
+ghost use Rattle.ir_tree.specs.Shown.{shown, shown_operand, shown_argument, shown_callee, shown_function};
+ghost use Rattle.ir_rules.specs.Seen.{seen};
+ghost use Rattle.ir_rules.specs.Calls.{params_fit, written_form, call_fits};
+ghost use Rattle.ir_rules.specs.Causes.{callee_fits, operand_index, form_fits};
+ghost use Rattle.ir_rules.specs.Indexing.{path, agrees};
+ghost use Rattle.ir_rules.specs.Classes.{AreClasses};
+
+use crate::callees::function_named;
+use crate::classes::same_type;
+use crate::constants::constant;
+use crate::labels::written_types;
+use crate::paths::path;
+use crate::together::{agrees, constant_index};
+use crate::types::is_pointer;
+use crate::typing::{cast_fits, returns_fit};
+use ir_tree::instruction::{Argument, Callee, Instruction, Operand};
+use ir_tree::items::{Function, Param};
+use ir_tree::nodes::{NameId, TypeId};
+use ir_tree::table::Names;
+use ir_tree::whole::Module;
+use pv_base::list::List;
+use pv_base::want::Memory;
+use std::alloc::Global;
+
+/// The types of parameters.
+fn param_types(alloc: Global, params: &[Param]) -> Result<List<TypeId>, Memory>
+    ensures { IfOk result (λ l. l ≡ map (λ p. p.of) params.now) }
+{
+    let mut types = List::new(alloc);
+    for param in params {
+        types.push(param.of)?;
+    }
+    Ok(types)
+}
+
+/// Whether the types of arguments begin with those of the parameters, and more follow only where `more` may.
+fn params_fit(
+    names: &Names,
+    classes: &[usize],
+    more: bool,
+    params: &[TypeId],
+    arguments: &[TypeId],
+) -> bool
+    requires { AreClasses names.now classes.now }
+    ensures { result ≡ params_fit more (map (type_at names.now) params.now) (map (type_at names.now) arguments.now) }
+{
+    if arguments.len() < params.len() {
+        return false;
+    }
+    for i in 0..params.len() {
+        if !same_type(names, classes, params[i], arguments[i]) {
+            return false;
+        }
+    }
+    more || arguments.len() - params.len() == 0
+}
+
+/// Whether a function's parameters are those of the form `(ptr, ...)`.
+#[tactic(auto, using(crate::proofs::CallLemmas::form_one, crate::proofs::CallLemmas::form_more), unfolding(crate::specs::Calls::params_fit))]
+fn written_form(names: &Names, params: &[TypeId]) -> bool
+    ensures { result ≡ written_form (map (type_at names.now) params.now) }
+{
+    match params {
+        [] => false,
+        [first] => is_pointer(names, *first),
+        [_, _, ..] => false,
+    }
+}
+
+/// Whether a call is of a function's type.
+#[tactic(auto, using(crate::proofs::CallLemmas::param_types_shown))]
+fn call_fits(
+    names: &Names,
+    classes: &[usize],
+    function: &Function,
+    params: &[TypeId],
+    of: TypeId,
+    variadic: bool,
+    arguments: &[TypeId],
+) -> bool
+    requires classes { AreClasses names.now classes.now }
+    requires params { params.now ≡ map (λ p. p.of) function.now.params }
+    ensures { result ≡ call_fits (shown_function names.now function.now) (type_at names.now of) variadic (map (type_at names.now) arguments.now) }
+{
+    same_type(names, classes, function.result, of)
+        && function.variadic == variadic
+        && (!variadic || written_form(names, params))
+        && params_fit(names, classes, variadic, params, arguments)
+}
+
+#[tactic(auto, using(crate::proofs::CallLemmas::argument_types_shown))]
+fn named_call_fits(
+    alloc: Global,
+    tree: &Module,
+    classes: &[usize],
+    name: NameId,
+    of: TypeId,
+    variadic: bool,
+    arguments: &[Argument],
+) -> Result<bool, Memory>
+    requires { AreClasses tree.now.names classes.now }
+    ensures { IfOk result (λ b. b ≡ callee_fits (seen tree.now) (shown_callee tree.now.names (Callee.Function name)) (type_at tree.now.names of) variadic (map (shown_argument tree.now.names) arguments.now)) }
+{
+    let types = written_types(alloc, arguments)?;
+    match function_named(tree, name) {
+        Some(function) => {
+            let params = param_types(alloc, function.params.as_slice())?;
+            Ok(call_fits(
+                tree.names(),
+                classes,
+                function,
+                params.as_slice(),
+                of,
+                variadic,
+                types.as_slice(),
+            ))
+        }
+        None => Ok(true),
+    }
+}
+
+fn callee_fits(
+    alloc: Global,
+    tree: &Module,
+    classes: &[usize],
+    callee: Callee,
+    of: TypeId,
+    variadic: bool,
+    arguments: &[Argument],
+) -> Result<bool, Memory>
+    requires { AreClasses tree.now.names classes.now }
+    ensures { IfOk result (λ b. b ≡ callee_fits (seen tree.now) (shown_callee tree.now.names callee) (type_at tree.now.names of) variadic (map (shown_argument tree.now.names) arguments.now)) }
+{
+    match callee {
+        Callee::Function(name) => {
+            named_call_fits(alloc, tree, classes, name, of, variadic, arguments)
+        }
+        Callee::Pointer(_) => Ok(!variadic),
+    }
+}
+
+fn operand_index(names: &Names, operand: Operand) -> Option<u64>
+    ensures { result ≡ operand_index (shown_operand names.now operand) }
+{
+    match operand {
+        Operand::Register(_) => None,
+        Operand::Constant(number) => constant_index(constant(names, number)),
+    }
+}
+
+/// The numbers of indices, where they are constant integers.
+fn indices(
+    alloc: Global,
+    names: &Names,
+    arguments: &[Argument],
+) -> Result<List<Option<u64>>, Memory>
+    ensures { IfOk result (λ l. l ≡ map (λ a. operand_index (shown_operand names.now a.value)) arguments.now) }
+{
+    let mut numbers = List::new(alloc);
+    for argument in arguments {
+        numbers.push(operand_index(names, argument.value))?;
+    }
+    Ok(numbers)
+}
+
+#[tactic(auto, using(crate::proofs::CallLemmas::indices_shown))]
+fn address_fits(
+    alloc: Global,
+    tree: &Module,
+    of: TypeId,
+    arguments: &[Argument],
+) -> Result<bool, Memory>
+    ensures { IfOk result (λ b. b ≡ agrees (path (seen tree.now).types (type_at tree.now.names of) (map (λ a. operand_index a.value) (map (shown_argument tree.now.names) arguments.now)))) }
+{
+    let numbers = indices(alloc, tree.names(), arguments)?;
+    Ok(agrees(path(tree.names(), tree.types(), of, numbers.as_slice())))
+}
+
+/// Whether an instruction has what its form asks beyond its operands.
+#[tactic(auto, unfolding(crate::specs::Causes::form_fits, ir_tree::specs::Shown::shown))]
+pub fn form_fits(
+    alloc: Global,
+    tree: &Module,
+    classes: &[usize],
+    function: &Function,
+    instruction: &Instruction,
+) -> Result<bool, Memory>
+    requires { AreClasses tree.now.names classes.now }
+    ensures { IfOk result (λ b. b ≡ form_fits (seen tree.now) (shown_function tree.now.names function.now) (shown tree.now.names instruction.now)) }
+{
+    match instruction {
+        Instruction::Cast { op, of, target, .. } => Ok(cast_fits(tree.names(), *op, *of, *target)),
+        Instruction::Address { of, indices, .. } => {
+            address_fits(alloc, tree, *of, indices.as_slice())
+        }
+        Instruction::Call {
+            of,
+            variadic,
+            callee,
+            arguments,
+            ..
+        } => callee_fits(
+            alloc,
+            tree,
+            classes,
+            *callee,
+            *of,
+            *variadic,
+            arguments.as_slice(),
+        ),
+        Instruction::Return { value } => Ok(returns_fit(
+            tree.names(),
+            classes,
+            function.result,
+            *value,
+        )),
+        _ => Ok(true),
+    }
+}
