@@ -18,8 +18,6 @@ pub mod meeting;
 pub mod operands;
 pub mod paths;
 pub mod tables;
-#[cfg(test)]
-mod tests;
 pub mod together;
 pub mod types;
 pub mod typing;
