@@ -1,4 +1,4 @@
-//! The rules of a module as definitions, a plain test of them, and a module that keeps them.
+//! The rules of a module as definitions, exact tests of their parts, and a module that keeps them.
 #![tactic(auto)]
 
 pub mod callees;
