@@ -1,9 +1,9 @@
 //! The rules that a function keeps, tested.
 ghost use Rattle.std.specs.Prelude.{◌≡◌, ◌==◌, ◌<◌, ◌^◌, ◌↔◌, IsTrue, Some, length, slice_get};
-ghost use Rattle.std.specs.List.{find, list_all, list_any};
-ghost use Rattle.std.specs.Option.{option_copied};
+ghost use Rattle.std.specs.List.{list_all, list_any};
 ghost use Rattle.first_tree.specs.Rules.{are_joined, are_met, goes_to, has_arm, has_edge, instruction_count, is_ended, is_joined_arm, is_joined_block, is_joined_phi, is_lawful, is_met, is_of, is_result, is_same, is_sound_block, is_target, is_terminator, is_typed, is_typed_phi, is_wide};
 
+use crate::arms::Arms;
 use crate::tree::{Arm, Block, Function, Instruction, Operand, Phi, Register};
 
 /// Whether there is such a register, of this width.
@@ -204,53 +204,47 @@ fn is_same(one: Operand, other: Operand) -> bool
     }
 }
 
-/// The first arm with that label.
-fn arm_from(arms: &[Arm], from: u32) -> Option<&Arm>
-    ensures { option_copied result ≡ find (λ c. c.from == from) arms.now }
-{
-    arms.iter().find(|c| c.from == from)
-}
-
 /// Whether the arm is of an edge to that block, and has the operand of the first arm with its label.
-fn is_joined_arm(blocks: &[Block], to: u32, arms: &[Arm], arm: &Arm) -> bool
+fn is_joined_arm(blocks: &[Block], to: u32, arms: &Arms, arm: &Arm) -> bool
     ensures { result ≡ is_joined_arm blocks.now to arms.now arm.now }
 {
     if !has_edge(blocks, arm.from, to) {
         return false;
     }
-    match arm_from(arms, arm.from) {
+    match arms.from(arm.from) {
         Some(first) => is_same(first.value, arm.value),
         None => false,
     }
 }
 
 /// Whether each arm of a phi is.
-fn is_joined_phi(blocks: &[Block], to: u32, arms: &[Arm]) -> bool
+fn is_joined_phi(blocks: &[Block], to: u32, arms: &Arms) -> bool
     ensures { result ≡ list_all (is_joined_arm blocks.now to arms.now) arms.now }
 {
-    arms.iter().all(|a| is_joined_arm(blocks, to, arms, a))
+    arms.as_slice()
+        .iter()
+        .all(|a| is_joined_arm(blocks, to, arms, a))
 }
 
 /// Whether each phi of a block is.
 fn are_joined_phis(blocks: &[Block], to: u32, phis: &[Phi]) -> bool
     ensures { result ≡ list_all (is_joined_phi blocks.now to) phis.now }
 {
-    phis.iter()
-        .all(|phi| is_joined_phi(blocks, to, phi.arms.as_slice()))
+    phis.iter().all(|phi| is_joined_phi(blocks, to, &phi.arms))
 }
 
 /// Whether there is an arm with that label.
-fn has_arm(from: u32, arms: &[Arm]) -> bool
+fn has_arm(from: u32, arms: &Arms) -> bool
     ensures { result ≡ list_any (λ a. a.from == from) arms.now }
 {
-    arms.iter().any(|a| a.from == from)
+    arms.from(from).is_some()
 }
 
 /// Whether each phi has such an arm.
 fn have_arms(from: u32, phis: &[Phi]) -> bool
     ensures { result ≡ list_all (has_arm from) phis.now }
 {
-    phis.iter().all(|phi| has_arm(from, phi.arms.as_slice()))
+    phis.iter().all(|phi| has_arm(from, &phi.arms))
 }
 
 /// Whether each phi of a block has an arm for the edge from that one.

@@ -1,4 +1,5 @@
 //! The trees of a module, in text order. Registers, blocks and functions stand in them by number.
+use crate::arms::Arms;
 use int_num::int::Int;
 use int_num::ops::{BinOp, Flags, Pred};
 use pv_base::list::List;
@@ -66,7 +67,7 @@ pub struct Arm {
 pub struct Phi {
     pub to: u32,
     pub width: u32,
-    pub arms: List<Arm>,
+    pub arms: Arms,
 }
 
 /// A block: its label, its phis, and its instructions behind them, of which the last is the terminator. An entry block without

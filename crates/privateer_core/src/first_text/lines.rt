@@ -6,7 +6,8 @@ ghost use Rattle.privateer_core.specs.FirstText.{AddsArm, action_in, arm_at, arm
 use crate::first_text::names::Names;
 use crate::first_text::words::{after_front, before_end, label_in, pieces, width_in, word};
 use crate::number::integer;
-use first_tree::tree::{Arm, Instruction as Tree, Operand, Phi as PhiTree};
+use first_tree::arms::Arms;
+use first_tree::tree::{Instruction as Tree, Operand, Phi as PhiTree};
 use int_num::ops::{BinOp, Flags, Pred};
 use pv_base::bytes::Bytes;
 use pv_base::list::List;
@@ -269,15 +270,9 @@ fn result_in(names: &Names, to: u32, words: &[&[u8]]) -> Option<Tree>
     None
 }
 
-fn push_arm(arms: &mut List<Arm>, value: Operand, from: u32) -> Result<(), Memory>
-    ensures { OnOk result (arms.new ≡ arms.old ++ record { value = value; from = from } ∷ []) }
-{
-    arms.push(Arm { value, from })
-}
-
 /// Adds the arm `[ A, %b ]`, where it is one.
 fn add_arm(
-    arms: &mut List<Arm>,
+    arms: &mut Arms,
     names: &Names,
     width: u32,
     value: &[u8],
@@ -291,7 +286,7 @@ fn add_arm(
         Some(value) => match names.block_in(from) {
             None => Ok(false),
             Some(from) => {
-                push_arm(arms, value, from)?;
+                arms.add(value, from)?;
                 Ok(true)
             }
         },
@@ -311,7 +306,7 @@ fn arm_closes(last: bool, closed: &[u8]) -> bool
 
 /// Adds the arm whose first word has that number, where there is one; whether it is the last.
 fn add_arm_at(
-    arms: &mut List<Arm>,
+    arms: &mut Arms,
     names: &Names,
     width: u32,
     words: &[&[u8]],
@@ -335,12 +330,12 @@ fn arms_from(
     width: u32,
     words: &[&[u8]],
     count: usize,
-) -> Result<Option<List<Arm>>, Memory>
+) -> Result<Option<Arms>, Memory>
     requires width { IsWidth width }
     requires room { 4 * count ≤ length words.now }
     ensures { IfOk result (λ o. o ≡ arms_at names.now width (texts words.now) 4 count) }
 {
-    let mut arms = List::new(alloc);
+    let mut arms = Arms::new(alloc);
     for i in 0..count {
         if !add_arm_at(&mut arms, names, width, words, 4 + 4 * i, i + 1 == count)? {
             return Ok(None);
@@ -355,7 +350,7 @@ fn arms_in(
     names: &Names,
     words: &[&[u8]],
     width: u32,
-) -> Result<Option<List<Arm>>, Memory>
+) -> Result<Option<Arms>, Memory>
     requires { IsWidth width }
     ensures { IfOk result (λ o. o ≡ arms_in names.now (texts words.now) width) }
 {

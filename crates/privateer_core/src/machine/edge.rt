@@ -1,12 +1,10 @@
 //! Operands, and the edge to a block, whose phis take their values all at once.
-ghost use Rattle.std.specs.Prelude.{◌≡◌, ◌==◌, ◌<◌, length, slice_get, Some};
-ghost use Rattle.std.specs.List.{find};
-ghost use Rattle.std.specs.Option.{option_copied};
+ghost use Rattle.std.specs.Prelude.{◌≡◌, ◌<◌, length, slice_get, Some};
 ghost use Rattle.privateer_core.specs.Effects.{Tells};
 ghost use Rattle.privateer_core.specs.Machine.{operand, integer, integer_in, phi_value, phi_values, set_phis};
 
 use crate::machine::{Fault, Frame, Trap, Value};
-use first_tree::tree::{Arm, Operand, Phi};
+use first_tree::tree::{Operand, Phi};
 use int_num::int::Int;
 use pv_base::list::List;
 use std::alloc::Global;
@@ -40,18 +38,11 @@ pub(crate) fn read_integer(frame: &Frame, from: Operand) -> Result<Int, Trap>
     Ok(integer_in(value))
 }
 
-/// The first arm with that label.
-fn arm_from(phi: &Phi, from: u32) -> Option<&Arm>
-    ensures { option_copied result ≡ find (λ a. a.from == from) phi.now.arms }
-{
-    phi.arms.as_slice().iter().find(|a| a.from == from)
-}
-
 /// What a phi reads on the edge from the frame's block.
 fn phi_value(phi: &Phi, frame: &Frame) -> Result<Value, Trap>
     ensures { result ≡ phi_value frame.now phi.now }
 {
-    match arm_from(phi, frame.block) {
+    match phi.arms.from(frame.block) {
         Some(arm) => read(frame, arm.value),
         None => Err(Trap::UnsetRegister),
     }
