@@ -1,5 +1,5 @@
 -- An integer of a width, as its bits, and as the signed number that the bits stand for in two's complement.
-use Rattle.std.specs.Prelude.{◌≡◌, ℕ, ◌*◌, ◌^◌, ◌<◌, ◌≤◌, ℤ, pos, ◌-ℤ◌, nat_lt, if◌then◌else◌}
+use Rattle.std.specs.Prelude.{◌≡◌, ℕ, ◌*◌, ◌%◌, ◌^◌, ◌<◌, ◌≤◌, ℤ, pos, ◌-ℤ◌, nat_lt, if◌then◌else◌}
 
 pub record Integer : Type 0 where
   pub width : ℕ
@@ -26,3 +26,7 @@ signed_of width bits = if nat_lt (2 * bits) (2 ^ width) then pos bits else (pos 
 
 abbrev pub signed : Integer → ℤ
 signed n = signed_of n.width n.bits
+
+-- the low eight bits
+abbrev pub low_byte : Integer → ℕ
+low_byte n = n.bits % 256

@@ -1,6 +1,6 @@
 //! The signed number of an integer, the numbers at a width's bounds, and what is left of a number at a width.
 ghost use Rattle.std.specs.Prelude.{◌≡◌, ◌-◌, ◌%◌, ◌^◌, pos};
-ghost use Rattle.int_num.specs.Integer.{IsWidth, signed};
+ghost use Rattle.int_num.specs.Integer.{IsWidth, signed, low_byte};
 ghost use Rattle.int_num.specs.Operations.{of_bits, modulo, fits_unsigned, fits_signed};
 
 use crate::int::Int;
@@ -30,6 +30,13 @@ pub fn signed(a: Int) -> i64
     } else {
         -1 - (ones(a.width()) - a.bits()) as i64
     }
+}
+
+/// The low eight bits.
+pub fn low_byte(a: Int) -> u8
+    ensures { result ≡ low_byte a }
+{
+    (a.bits() % 256) as u8
 }
 
 /// The low bits.

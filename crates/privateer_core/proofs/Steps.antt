@@ -6,7 +6,7 @@ use Rattle.std.proofs.lemmas.Bool.{ltb-true}
 use Rattle.std.specs.Prelude.{IfOk, position, codes, ◌&&◌, not, replicate, if◌then◌else◌, nat_lt, nat_le, ⊤}
 use Rattle.std.specs.List.{list_all, find}
 use Rattle.pv_base.specs.Outside.{Text}
-use Rattle.int_num.specs.Integer.{Integer}
+use Rattle.int_num.specs.Integer.{Integer, low_byte}
 use Rattle.int_num.specs.Operations.{binary, compare}
 use Rattle.int_num.specs.declared.ops.BinOp.{BinOp}
 use Rattle.int_num.specs.declared.ops.Flags.{Flags}
@@ -35,7 +35,7 @@ use Rattle.privateer_core.specs.declared.machine.Value.TheVariants.{Int}
 use Rattle.privateer_core.specs.declared.machine.Change.{Change}
 use Rattle.privateer_core.specs.declared.machine.Change.TheVariants.{Go, Give, Edge, Return}
 use Rattle.privateer_core.specs.Script.{Script, Gives, with, outcome}
-use Rattle.privateer_core.specs.Machine.{Effect, FrameOf, HoldFor, StateOf, arm_value, binary_script, block_phis, blocks_of, branch_script, changed, compare_script, computed, edge, ended_by, entered, executed, finish, frame_instructions, function_blocks, function_registers, given, instruction_at, instructions_of, integer, integer_in, keep, low_byte, meaning, moved, of_value, operand, output_limit, phi_value, phi_values, phis_of, put, put_script, registers_of, return_script, set_phis, silent, start_at, step, step_word, stopped, then_value, top_frame, truth}
+use Rattle.privateer_core.specs.Machine.{Effect, FrameOf, HoldFor, StateOf, arm_value, binary_script, block_phis, blocks_of, branch_script, changed, compare_script, computed, edge, ended_by, entered, executed, finish, frame_instructions, function_blocks, function_registers, given, instruction_at, instructions_of, integer, integer_in, keep, meaning, moved, of_value, operand, output_limit, phi_value, phi_values, phis_of, put, put_script, registers_of, return_script, set_phis, silent, start_at, step, step_word, stopped, then_value, top_frame, truth}
 use Rattle.privateer_core.specs.Effects.{AreOneWidth, Executes, Tells, bytes_shown, effect_shown}
 use Rattle.privateer_core.specs.Typing.{ChangeOf, EdgeOf, GoesOn, SuitPhis, Suits}
 use Rattle.privateer_core.proofs.Pieces.{both}

@@ -1,7 +1,7 @@
 -- The sequential machine: its state, one step, and a run of at most so many steps.
-use Rattle.std.specs.Prelude.{◌≡◌, ℕ, zero, suc, ◌+◌, ◌-◌, ◌%◌, ◌<◌, ◌++◌, ◌==◌, List, [], ◌∷◌, length, take, slice_get, slice_set, replicate, Option, None, Some, IsSome, Result, Ok, Err, unwrap_or, nat_le, if◌then◌else◌, Bool, ⊤}
+use Rattle.std.specs.Prelude.{◌≡◌, ℕ, zero, suc, ◌+◌, ◌-◌, ◌<◌, ◌++◌, ◌==◌, List, [], ◌∷◌, length, take, slice_get, slice_set, replicate, Option, None, Some, IsSome, Result, Ok, Err, unwrap_or, nat_le, if◌then◌else◌, Bool, ⊤}
 use Rattle.std.specs.List.{find}
-use Rattle.int_num.specs.Integer.{Integer}
+use Rattle.int_num.specs.Integer.{Integer, low_byte}
 use Rattle.int_num.specs.Operations.{binary, compare, of_bits}
 use Rattle.int_num.specs.declared.ops.BinOp.{BinOp}
 use Rattle.int_num.specs.declared.ops.Flags.{Flags}
@@ -163,10 +163,6 @@ edge m f target = with (phi_values f (block_phis m f target)) (λ values. Gives 
 abbrev pub keep : Option ℕ → Value → Change
 keep None value = Go
 keep (Some to) value = Give to value
-
--- the low byte of a number
-abbrev pub low_byte : Integer → ℕ
-low_byte n = n.bits % 256
 
 -- the low byte is printed, and is the result as an i32
 abbrev pub put : Option ℕ → ℕ → Effect

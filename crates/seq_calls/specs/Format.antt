@@ -1,9 +1,9 @@
 -- Formats of `printf`, after its description in the C standard, with the few directives that are taken here: `%d %i %u %x %c` of
 -- an integer of 32 bits, `%ld %lu %lx %lld %llu` of one of 64 bits, `%s` of a pointer to a text, and `%%`.
-use Rattle.std.specs.Prelude.{ℕ, zero, suc, ◌+◌, ◌-◌, ◌%◌, ◌==◌, ◌||◌, ◌++◌, List, [], ◌∷◌, Option, Some, None, is_some, option_and_then, slice_get, decimal, false, if◌then◌else◌}
+use Rattle.std.specs.Prelude.{ℕ, zero, suc, ◌+◌, ◌-◌, ◌==◌, ◌||◌, ◌++◌, List, [], ◌∷◌, Option, Some, None, is_some, option_and_then, slice_get, decimal, false, if◌then◌else◌}
 use Rattle.std.specs.Fmt.{digits, signed_decimal, option_append}
 use Rattle.pv_base.specs.Outside.{Text}
-use Rattle.int_num.specs.Integer.{Integer, signed}
+use Rattle.int_num.specs.Integer.{Integer, signed, low_byte}
 use Rattle.seq_calls.specs.declared.directive.Directive.{Directive}
 use Rattle.seq_calls.specs.declared.directive.Directive.TheVariants as directive
 use Rattle.seq_calls.specs.declared.directive.Piece.{Piece}
@@ -79,7 +79,7 @@ unfoldable pub shown : Directive → Arg → Option Text
 shown (directive.Signed width) (arg.Int n) = of_bits width n (signed_decimal (signed n))
 shown (directive.Unsigned width) (arg.Int n) = of_bits width n (decimal n.bits)
 shown (directive.Hexadecimal width) (arg.Int n) = of_bits width n (digits 16 false n.bits)
-shown directive.Character (arg.Int n) = of_bits 32 n (n.bits % 256 ∷ [])
+shown directive.Character (arg.Int n) = of_bits 32 n (low_byte n ∷ [])
 shown directive.Text (arg.Text t) = Some t
 shown directive.Text arg.Other = Some []
 shown _ _ = None

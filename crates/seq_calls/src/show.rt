@@ -7,7 +7,7 @@ ghost use Rattle.seq_calls.specs.declared.show.FormatEnd.TheVariants.{Bad, Memor
 
 use crate::directive::Directive;
 use int_num::int::Int;
-use int_num::sign::signed;
+use int_num::sign::{low_byte, signed};
 use itoa::Buffer;
 use pv_base::bytes::Bytes;
 use std::alloc::Global;
@@ -99,7 +99,7 @@ fn show_int(alloc: Global, directive: Directive, n: Int, out: &mut Bytes) -> Res
             if n.width() != 32 {
                 return Err(FormatEnd::Bad);
             }
-            append(out, &[(n.bits() % 256) as u8])
+            append(out, &[low_byte(n)])
         }
         Directive::Text => Err(FormatEnd::Bad),
     }

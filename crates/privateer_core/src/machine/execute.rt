@@ -4,7 +4,7 @@ ghost use Rattle.int_num.specs.Operations.{of_bits};
 ghost use Rattle.first_tree.specs.Rules.{IsChecked, is_typed};
 ghost use Rattle.privateer_core.specs.Script.{outcome};
 ghost use Rattle.privateer_core.specs.Effects.{AreOneWidth, Executes, Tells, effect_shown, sent};
-ghost use Rattle.privateer_core.specs.Machine.{FrameOf, HoldFor, binary_script, branch_script, compare_script, edge, executed, function_blocks, function_registers, instruction_at, low_byte, meaning, poison_word, put, put_script, return_script, silent, truth};
+ghost use Rattle.privateer_core.specs.Machine.{FrameOf, HoldFor, binary_script, branch_script, compare_script, edge, executed, function_blocks, function_registers, instruction_at, meaning, poison_word, put, put_script, return_script, silent, truth};
 ghost use Rattle.privateer_core.specs.declared.machine.Change.TheVariants.{Give, Return};
 ghost use Rattle.privateer_core.specs.declared.machine.Value.TheVariants.{Int as IntValue};
 
@@ -15,6 +15,7 @@ use int_num::binary::binary;
 use int_num::compare::compare;
 use int_num::int::Int;
 use int_num::ops::{BinOp, Flags, Poison, Pred};
+use int_num::sign::low_byte;
 
 /// The instruction at which the frame stands.
 fn fetch(code: &Module, frame: &Frame) -> Instruction
@@ -115,12 +116,6 @@ fn put(to: Option<u32>, byte: u8) -> Effect
         change,
         printed: Some(byte),
     }
-}
-
-fn low_byte(n: Int) -> u8
-    ensures { result ≡ low_byte n }
-{
-    (n.bits() % 256) as u8
 }
 
 /// `%r = call i32 @putchar(i32 A)`
