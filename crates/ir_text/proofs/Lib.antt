@@ -25,3 +25,4 @@ pub mod OperandLaws
 pub mod LaidOut
 pub mod MemoryTypeLaws
 pub mod Bodies
+pub mod MemoryLaws
