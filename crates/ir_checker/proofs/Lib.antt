@@ -1,0 +1,3 @@
+pub mod ConstantSame
+pub mod KindLemmas
+pub mod PhiLemmas

@@ -1,0 +1,5 @@
+//! The test of a module by its rules: exactly the modules without a fault pass, and of another the first fault is answered.
+#![tactic(auto)]
+
+pub mod kinds;
+pub mod phis;
