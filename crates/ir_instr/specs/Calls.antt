@@ -1,5 +1,5 @@
 -- `call`, behind its word.
-use Rattle.std.specs.Prelude.{Bool, true, false, not, ◌&&◌, ◌||◌, if◌then◌else◌, List, [], ◌∷◌, Option, Some, None, Result, Ok, Err, codes}
+use Rattle.std.specs.Prelude.{Bool, true, false, ◌||◌, if◌then◌else◌, [], ◌∷◌, Option, Some, None, Result, Ok, Err, codes}
 use Rattle.pv_base.specs.declared.name.Name.{Name}
 use Rattle.ir_lex.specs.declared.token.TokenKind.{TokenKind}
 use Rattle.ir_lex.specs.declared.token.TokenKind.TheVariants as kind
@@ -18,21 +18,21 @@ use Rattle.ir_text.specs.Reading.{Reader, ◌>>=◌, gives, wrong, Meaning, toke
 use Rattle.ir_text.specs.Choice.{choose}
 use Rattle.ir_text.specs.Leaves.{tested, mark_at, word_at, spelled_name}
 use Rattle.ir_text.specs.Lists.{list_at}
-use Rattle.ir_text.specs.Passed.{skipped, is_integer, some_integer, group_from, may_pass, after_sign, after_string, words_at, stops}
+use Rattle.ir_text.specs.Passed.{skipped, is_integer, group_from, may_pass, after_sign, after_string, words_at, stops}
 use Rattle.ir_text.specs.Types.{Known, register_type, result_type}
 use Rattle.ir_instr.specs.Words.{opcodes, constant_words}
 
 -- ---- the words between the type of an argument and its value
 
--- whether a number belongs to the word before it: it is no value, since neither `,` nor `)` stands behind it
-unfoldable pub number_belongs : List TokenV → Bool
-number_belongs [] = false
-number_belongs (t ∷ []) = false
-number_belongs (t ∷ u ∷ rest) = is_integer t && not (is_mark 44 u || is_mark 41 u)
+-- a number behind a word is the value where `,` or `)` stands behind it, else it belongs to the word: where the tokens end, it may be either
+abbrev pub number_behind : TokenV → Reader (Unit {0})
+number_behind t [] = Err Ended
+number_behind t (u ∷ rest) = if is_mark 44 u || is_mark 41 u then Ok (tt, t ∷ u ∷ rest) else Ok (tt, u ∷ rest)
 
 -- a number that belongs to the word
-abbrev pub number_of_word : Reader (Unit {0})
-number_of_word ts = if number_belongs ts then token_by some_integer ts else Ok (tt, ts)
+unfoldable pub number_of_word : Reader (Unit {0})
+number_of_word [] = Ok (tt, [])
+number_of_word (t ∷ rest) = if is_integer t then number_behind t rest else Ok (tt, t ∷ rest)
 
 -- a group in parentheses, or a number that belongs to the word
 abbrev pub after_attribute : Reader (Unit {0})
