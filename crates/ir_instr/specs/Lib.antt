@@ -12,3 +12,5 @@ pub mod Control
 pub mod Instructions
 pub mod InstructionSpelled
 pub mod Scalars
+pub mod Defined
+pub mod Results
