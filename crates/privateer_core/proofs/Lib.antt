@@ -3,7 +3,6 @@ pub mod Runs
 pub mod Typed
 pub mod Edges
 pub mod Steps
-pub mod WordLemmas
 pub mod Digits
 pub mod FileLemmas
 pub mod DeliverLemmas

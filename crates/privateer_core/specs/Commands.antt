@@ -1,58 +1,27 @@
--- The commands: what the words ask, and what is answered.
-use Rattle.std.specs.Prelude.{◌≡◌, ◌&&◌, ◌++◌, ℕ, List, [], ◌∷◌, Option, Some, None, codes, if◌then◌else◌, ⊤}
-use Rattle.std.specs.Str.{bytes_eq}
+-- The commands: what is answered.
+use Rattle.std.specs.Prelude.{◌≡◌, ◌++◌, ℕ, [], Option, Some, None, codes, ⊤}
 use Rattle.pv_base.specs.Outside.{Text}
+use Rattle.command_words.specs.Requests.{Asked, usage, refused, lacking, run, check}
 use Rattle.first_tree.specs.declared.tree.Module.{Module}
-use Rattle.privateer_core.specs.Texts.{are_texts}
-use Rattle.privateer_core.specs.Numbers.{number_within}
 use Rattle.privateer_core.specs.FirstModule.{module_of}
 use Rattle.privateer_core.specs.Machine.{sequential_run}
-use Rattle.privateer_core.specs.Report.{report_text}
+use Rattle.privateer_core.specs.Report.{report_text, accepted_line}
 use Rattle.privateer_core.specs.Answers.{refuses, with_file}
 use Rattle.privateer_core.specs.declared.answer.Answer.{Answer}
 use Rattle.privateer_core.specs.declared.machine.End.{End}
 use Rattle.privateer_core.specs.declared.machine.End.TheVariants.{Ended, Trapped, Spent}
 use Rattle.privateer_core.specs.declared.machine.Outcome.{Outcome}
-use Rattle.privateer_core.specs.declared.words.Request.{Request}
-use Rattle.privateer_core.specs.declared.words.Request.TheVariants as request
 
--- ---- the words
-
--- what is asked: a refusal of the words with its line, or the run of a module on an input with a budget
-pub data Asked : Type 0 where
-  usage : Text → Asked
-  run : Text → Text → ℕ → Asked
-
-abbrev pub budget_limit : ℕ
-budget_limit = 1000000000000
-
-abbrev pub usage_words : Text
-usage_words = codes "usage words\n"
-
-abbrev pub usage_number : Text → Text → Text
-usage_number name text = codes "usage " ++ name ++ codes " " ++ text ++ codes "\n"
-
-abbrev pub run_with : Text → Text → Text → Option ℕ → Asked
-run_with code input text (Some n) = run code input n
-run_with code input text None = usage (usage_number (codes "--budget") text)
-
-abbrev pub asked_run : Text → Text → Text → Asked
-asked_run code input text = run_with code input text (number_within 1 budget_limit text)
-
--- the program's name, and then exactly `run MODULE INPUT --budget N`
-abbrev pub asked_exactly : List Text → Asked
-asked_exactly (program ∷ command ∷ code ∷ input ∷ option ∷ budget ∷ []) =
-    if bytes_eq command (codes "run") && bytes_eq option (codes "--budget")
-    then asked_run code input budget else usage usage_words
-asked_exactly _ = usage usage_words
-
--- what the words ask
-abbrev pub asked_of : List Text → Asked
-asked_of words = if are_texts words then asked_exactly words else usage usage_words
-
+-- words that are refused
 abbrev pub IsUsage : Asked → Type 0
 IsUsage (usage line) = ⊤
+IsUsage refused = ⊤
 IsUsage _ = ⊥
+
+-- what an answer is there for: no parse of words gives less than a command needs
+abbrev pub IsAnswered : Asked → Type 0
+IsAnswered lacking = ⊥
+IsAnswered _ = ⊤
 
 -- ---- the answers
 
@@ -76,14 +45,18 @@ abbrev pub wanted_run : (Text → Option Text) → Text → Text → ℕ → Opt
 wanted_run content code input budget =
     with_file content code (λ text. run_module content input budget (module_of text))
 
--- what the words and the contents of the files determine, where these are told
-abbrev pub wanted_of : (Text → Option Text) → Asked → Option Answer
-wanted_of content (usage line) = Some (refuses 4 line)
-wanted_of content (run code input budget) = wanted_run content code input budget
+-- the answer to a module that is accepted: how many functions it defines, how many globals and how many instructions it has
+abbrev pub accepted : Option Module → Answer
+accepted None = refused_module
+accepted (Some m) = record { status = 0; out = accepted_line m; report = [] }
 
--- ---- as the code has them
+abbrev pub wanted_check : (Text → Option Text) → Text → Option Answer
+wanted_check content code = with_file content code (λ text. Some (accepted (module_of text)))
 
-abbrev pub asks : Request → Asked
-asks request.Usage = usage usage_words
-asks (request.Budget text) = usage (usage_number (codes "--budget") text.now)
-asks (request.Run code input budget) = run code.now input.now budget
+-- what the words and the contents of the files determine, where these are told; `clap` refuses words with this text
+abbrev pub wanted_of : (Text → Option Text) → Text → Asked → Option Answer
+wanted_of content told (usage line) = Some (refuses 4 line)
+wanted_of content told refused = Some (refuses 4 told)
+wanted_of content told lacking = None
+wanted_of content told (run code input budget) = wanted_run content code input budget
+wanted_of content told (check code) = wanted_check content code

@@ -6,6 +6,5 @@ pub mod Numbers
 pub mod FirstText
 pub mod FirstModule
 pub mod Report
-pub mod Texts
 pub mod Answers
 pub mod Commands

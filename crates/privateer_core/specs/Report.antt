@@ -1,5 +1,5 @@
 -- The report of a run: its end line.
-use Rattle.std.specs.Prelude.{◌++◌, ℕ, List, [], codes, decimal, slice_get, Option, None, Some}
+use Rattle.std.specs.Prelude.{◌++◌, ℕ, List, [], codes, decimal, length, sum_by, slice_get, Option, None, Some}
 use Rattle.std.specs.Fmt.{signed_decimal}
 use Rattle.int_num.specs.Integer.{Integer, signed}
 use Rattle.pv_base.specs.Outside.{Text}
@@ -8,6 +8,7 @@ use Rattle.pv_base.specs.declared.name.Name.{Name}
 use Rattle.pv_base.specs.declared.name.Name.TheVariants.{Named, Numbered}
 use Rattle.first_tree.specs.declared.tree.Function.{Function}
 use Rattle.first_tree.specs.declared.tree.Module.{Module}
+use Rattle.first_tree.specs.Rules.{instruction_count}
 use Rattle.privateer_core.specs.declared.machine.Trap.{Trap}
 use Rattle.privateer_core.specs.declared.machine.Trap.TheVariants.{UnsetRegister, Overflow, Shift, Divide, Flag, Output}
 use Rattle.privateer_core.specs.declared.machine.End.{End}
@@ -45,3 +46,12 @@ end_line m Spent steps = codes "spent " ++ decimal steps ++ codes "\n"
 -- the report of a run
 unfoldable pub report_text : Module → Outcome → Text
 report_text m o = end_line m o.end o.steps
+
+-- how many instructions a function has
+abbrev pub function_size : Function → ℕ
+function_size f = instruction_count f.blocks
+
+-- what is put out of a module that is accepted; this form has no globals
+unfoldable pub accepted_line : Module → Text
+accepted_line m =
+    codes "accepted functions " ++ decimal (length m.functions) ++ codes " globals 0 instructions " ++ decimal (sum_by function_size m.functions) ++ codes "\n"

@@ -1,15 +1,19 @@
 //! The commands, up to their answers.
 ghost use Rattle.std.specs.Prelude.{◌≡◌, ◌≢◌, ◌≤◌, ◌↔◌, ◌++◌, codes, Some, IfOk};
+ghost use Rattle.pv_base.specs.Outside.{Text};
+ghost use Rattle.command_words.specs.Requests.{asked_of, asks};
+ghost use Rattle.command_words.specs.PlainLines.{ReadsPlain};
 ghost use Rattle.privateer_core.specs.Answers.{Answers, ReadsFile, refuses, fault_line, too_long_line};
-ghost use Rattle.privateer_core.specs.Commands.{asked_of, wanted_of, wanted_run, run_module, IsUsage, ran, status_of, usage_number};
+ghost use Rattle.privateer_core.specs.Commands.{wanted_of, wanted_run, wanted_check, run_module, accepted, IsUsage, IsAnswered, ran, status_of};
+ghost use Rattle.privateer_core.specs.FirstModule.{module_of};
 ghost use Rattle.privateer_core.specs.Machine.{sequential_run};
 
 use crate::answer::{Answer, refuse};
 use crate::first_text::{FirstEnd, read_first};
 use crate::machine::End;
 use crate::machine::run::run;
-use crate::report::report_text;
-use crate::words::{Request, read_request, texts};
+use crate::report::{accepted_line, report_text};
+use command_words::request::{Request, read_request};
 use first_tree::checked::Checked;
 use pv_base::bytes::Bytes;
 use pv_base::list::List;
@@ -19,6 +23,8 @@ use std::alloc::Global;
 
 /// The most bytes of a module, a profile or an input.
 pub const FILE_LIMIT: usize = 4_194_304;
+
+const ENDED: u8 = 0;
 
 const REFUSED: u8 = 3;
 
@@ -136,40 +142,71 @@ fn run_command<F: Files>(
     }
 }
 
-/// A refusal of a number.
-fn refuse_number(alloc: Global, name: &[u8], text: &str) -> Result<Answer, Memory>
-    ensures { IfOk result (λ a. a ≡ refuses 4 (usage_number name.now text.now)) }
+/// What the check of a module's text is answered.
+fn check_text(alloc: Global, text: &[u8]) -> Result<Answer, Memory>
+    ensures { IfOk result (λ a. a ≡ accepted (module_of text.now)) }
 {
-    let mut report = Bytes::from_slice(alloc, b"usage ")?;
-    report.append(name)?;
-    report.append(b" ")?;
-    report.append(text.as_bytes())?;
-    report.append(b"\n")?;
-    Ok(Answer {
-        status: USAGE,
-        out: Bytes::new(alloc),
-        report,
-    })
+    match read_first(alloc, text) {
+        Ok(checked) => {
+            let out = accepted_line(alloc, checked.module())?;
+            Ok(Answer {
+                status: ENDED,
+                out,
+                report: Bytes::new(alloc),
+            })
+        }
+        Err(FirstEnd::Memory) => Err(Memory),
+        Err(FirstEnd::Unbuilt) => refuse(alloc, REFUSED, b"refused module\n"),
+    }
+}
+
+/// `check MODULE`
+fn check_command<F: Files>(alloc: Global, files: &mut F, code: &str) -> Result<Answer, Memory>
+    ensures content { F.content files.new ≡ F.content files.old }
+    ensures later { F.faults files.old ≤ F.faults files.new }
+    ensures answers { IfOk result (λ a. Answers (wanted_check (F.content files.old) code.now) (F.faults files.old) (F.faults files.new) a) }
+    ensures no_usage { IfOk result (λ a. a.status ≢ 4) }
+{
+    let mut text = Bytes::new(alloc);
+    match read_file(alloc, files, code, &mut text)? {
+        None => {}
+        Some(refusal) => return Ok(refusal),
+    }
+    check_text(alloc, text.as_slice())
+}
+
+/// What a request is answered.
+fn answer_request<F: Files>(
+    alloc: Global,
+    files: &mut F,
+    request: &Request,
+) -> Result<Answer, Memory>
+    ensures content { F.content files.new ≡ F.content files.old }
+    ensures later { F.faults files.old ≤ F.faults files.new }
+    ensures answers { IfOk result (λ a. (told : Text) × Answers (wanted_of (F.content files.old) told (asks request.now)) (F.faults files.old) (F.faults files.new) a) }
+    ensures usage { IfOk result (λ a. (a.status ≡ 4) ↔ IsUsage (asks request.now)) }
+    ensures answered { IsAnswered (asks request.now) }
+{
+    match request {
+        Request::Usage { line } => refuse(alloc, USAGE, line.as_slice()),
+        Request::Refused { text } => refuse(alloc, USAGE, text.as_slice()),
+        Request::Run {
+            code,
+            input,
+            budget,
+        } => run_command(alloc, files, code.as_str(), input.as_str(), *budget),
+        Request::Check { code } => check_command(alloc, files, code.as_str()),
+    }
 }
 
 /// What the words are answered.
 pub fn answer<F: Files>(alloc: Global, words: &List<Bytes>, files: &mut F) -> Result<Answer, Memory>
     ensures content { F.content files.new ≡ F.content files.old }
     ensures later { F.faults files.old ≤ F.faults files.new }
-    ensures answers { IfOk result (λ a. Answers (wanted_of (F.content files.old) (asked_of words.now)) (F.faults files.old) (F.faults files.new) a) }
+    ensures answers { IfOk result (λ a. (told : Text) × Answers (wanted_of (F.content files.old) told (asked_of words.now)) (F.faults files.old) (F.faults files.new) a) }
     ensures usage { IfOk result (λ a. (a.status ≡ 4) ↔ IsUsage (asked_of words.now)) }
+    ensures answered { IfOk result (λ a. IsAnswered (asked_of words.now)) }
 {
-    let all = match texts(alloc, words.as_slice())? {
-        None => return refuse(alloc, USAGE, b"usage words\n"),
-        Some(all) => all,
-    };
-    match read_request(all.as_slice()) {
-        Request::Usage => refuse(alloc, USAGE, b"usage words\n"),
-        Request::Budget { text } => refuse_number(alloc, b"--budget", text),
-        Request::Run {
-            code,
-            input,
-            budget,
-        } => run_command(alloc, files, code, input, budget),
-    }
+    let request = read_request(alloc, words.as_slice())?;
+    answer_request(alloc, files, &request)
 }

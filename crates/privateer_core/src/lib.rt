@@ -13,4 +13,3 @@ pub mod report;
 #[cfg(test)]
 mod tests;
 pub mod top;
-pub mod words;

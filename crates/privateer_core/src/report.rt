@@ -1,10 +1,11 @@
 //! The report of a run.
-ghost use Rattle.std.specs.Prelude.{◌≡◌, ◌++◌, OnOk, OnErr, IfOk, decimal, slice_get};
+ghost use Rattle.std.specs.Prelude.{◌≡◌, ◌++◌, OnOk, OnErr, IfOk, IfSome, decimal, slice_get, sum_by};
+ghost use Rattle.first_tree.specs.Rules.{block_size};
 ghost use Rattle.std.specs.Fmt.{signed_decimal};
-ghost use Rattle.privateer_core.specs.Report.{trap_word, name_text, function_text, site_text, end_line, report_text};
+ghost use Rattle.privateer_core.specs.Report.{trap_word, name_text, function_text, site_text, end_line, report_text, function_size, accepted_line};
 
 use crate::machine::{End, Outcome, Trap};
-use first_tree::tree::Module;
+use first_tree::tree::{Block, Function, Module};
 use int_num::sign::signed;
 use itoa::Buffer;
 use pv_base::bytes::Bytes;
@@ -99,5 +100,64 @@ pub fn report_text(alloc: Global, code: &Module, outcome: &Outcome) -> Result<By
 {
     let mut text = Bytes::new(alloc);
     put_end(&mut text, code, outcome.end, outcome.steps)?;
+    Ok(text)
+}
+
+/// How many instructions a block has, its phis among them; `None` where that takes more than 64 bits.
+fn block_size(block: &Block) -> Option<u64>
+    ensures { IfSome result (λ n. n ≡ block_size block.now) }
+{
+    (block.phis.len() as u64).checked_add(block.instructions.len() as u64)
+}
+
+/// The same of a function.
+fn function_size(function: &Function) -> Option<u64>
+    ensures { IfSome result (λ n. n ≡ function_size function.now) }
+{
+    let mut size = 0u64;
+    for block in function.blocks.as_slice() {
+        match block_size(block) {
+            None => return None,
+            Some(more) => match size.checked_add(more) {
+                None => return None,
+                Some(next) => size = next,
+            },
+        }
+    }
+    Some(size)
+}
+
+/// The same of all functions.
+fn total_size(functions: &[Function]) -> Option<u64>
+    ensures { IfSome result (λ n. n ≡ sum_by function_size functions.now) }
+{
+    let mut size = 0u64;
+    for function in functions {
+        match function_size(function) {
+            None => return None,
+            Some(more) => match size.checked_add(more) {
+                None => return None,
+                Some(next) => size = next,
+            },
+        }
+    }
+    Some(size)
+}
+
+/// What is put out of a module that is accepted. A count of more than 64 bits is answered as want of memory.
+#[tactic(auto, unfolding(crate::specs::Report::accepted_line))]
+pub fn accepted_line(alloc: Global, code: &Module) -> Result<Bytes, Memory>
+    ensures { IfOk result (λ text. text ≡ accepted_line code.now) }
+{
+    let size = match total_size(code.functions.as_slice()) {
+        None => return Err(Memory),
+        Some(size) => size,
+    };
+    let mut text = Bytes::new(alloc);
+    text.append(b"accepted functions ")?;
+    put_number(&mut text, code.functions.len() as u64)?;
+    text.append(b" globals 0 instructions ")?;
+    put_number(&mut text, size)?;
+    text.append(b"\n")?;
     Ok(text)
 }

@@ -97,21 +97,56 @@ fn answers_by_status(rt: HostRuntime) -> Result<(), Fail> {
 #[test]
 fn other_words_are_refused(rt: HostRuntime) -> Result<(), Fail> {
     let alloc = rt.alloc();
-    let cases: [&[&str]; 5] = [
-        &[],
-        &["privateer"],
-        &["privateer", "run", "zero", "i", "--budget"],
-        &["privateer", "run", "--budget", "1", "zero", "i"],
-        &["privateer", "run", "zero", "i", "--budget", "1", "1"],
+    // the words, and how the report begins
+    let cases: [(&[&str], &str); 6] = [
+        (&[], "usage words\n"),
+        (&["privateer"], "error: "),
+        (&["privateer", "walk", "zero"], "error: "),
+        (&["privateer", "run", "zero", "i", "--budget"], "error: "),
+        (
+            &["privateer", "run", "zero", "i", "--budget", "1", "1"],
+            "error: ",
+        ),
+        (&["privateer", "check", "zero", "--budget", "1"], "error: "),
     ];
     let mut files = files_of(alloc, &[("zero", RETURN_ZERO), ("i", "")], &[])?;
-    for case in &cases {
-        let words = words_of(alloc, case)?;
+    for (words, begins) in &cases {
+        let words = words_of(alloc, *words)?;
         let mut out = MemSink::with_room(alloc, 99, List::new(alloc))?;
-        let mut report = MemSink::with_room(alloc, 99, List::new(alloc))?;
+        let mut report = MemSink::with_room(alloc, 9999, List::new(alloc))?;
         let status = plain_top(alloc, &words, &mut files, &mut out, &mut report);
         assert_eq!(rt; status, 4);
-        assert!(rt; report.bytes() == b"usage words\n".as_slice());
+        assert!(rt; out.bytes().is_empty());
+        assert!(rt; report.bytes().starts_with(begins.as_bytes()));
+    }
+    Ok(())
+}
+
+#[test]
+fn a_module_is_checked(rt: HostRuntime) -> Result<(), Fail> {
+    let alloc = rt.alloc();
+    let entries = [("zero", RETURN_ZERO), ("none", "")];
+    // module; status, output, report
+    let cases: [(&str, u8, &str, &str); 4] = [
+        (
+            "zero",
+            0,
+            "accepted functions 1 globals 0 instructions 1\n",
+            "",
+        ),
+        ("none", 3, "", "refused module\n"),
+        ("gone", 5, "", "fault reading gone\n"),
+        ("large", 8, "", "too long large\n"),
+    ];
+    let mut files = files_of(alloc, &entries, &["large"])?;
+    for (module, status, put, line) in &cases {
+        let words = words_of(alloc, &["privateer", "check", *module])?;
+        let mut out = MemSink::with_room(alloc, 99, List::new(alloc))?;
+        let mut report = MemSink::with_room(alloc, 99, List::new(alloc))?;
+        let end = plain_top(alloc, &words, &mut files, &mut out, &mut report);
+        assert_eq!(rt; end, *status);
+        assert!(rt; out.bytes() == put.as_bytes());
+        assert!(rt; report.bytes() == line.as_bytes());
     }
     Ok(())
 }

@@ -2,7 +2,9 @@
 ghost use Rattle.std.specs.Prelude.{◌≡◌, ◌≢◌, ◌<◌, ◌≤◌, ◌⊎◌, IfSome};
 ghost use Rattle.pv_base.specs.Outside.{Text, Rose, AppendsFront, appended};
 ghost use Rattle.privateer_core.specs.Answers.{Delivers, IsAnswer, IsQuiet, PutsAll, fault_line};
-ghost use Rattle.privateer_core.specs.Commands.{asked_of, wanted_of, IsUsage};
+ghost use Rattle.command_words.specs.Requests.{asked_of, lacking};
+ghost use Rattle.command_words.specs.PlainLines.{ReadsPlain};
+ghost use Rattle.privateer_core.specs.Commands.{wanted_of, IsUsage, IsAnswered};
 
 use crate::answer::Answer;
 use crate::commands::answer;
@@ -61,12 +63,17 @@ pub fn plain_top<F: Files, O: Sink, R: Sink>(
     ensures rooms { (O.room out.new ≡ O.room out.old) × (R.room report.new ≡ R.room report.old) }
     ensures later { (F.faults files.old ≤ F.faults files.new) × (O.faults out.old ≤ O.faults out.new) × (R.faults report.old ≤ R.faults report.new) }
     ensures statuses { result ≤ 8 }
-    // Where the files tell their content: the answer that words and content determine is put out and reported.
-    ensures delivers { result ≢ 5 → IfSome (wanted_of (F.content files.old) (asked_of words.now))
+    // The words of a plain command line are read as they stand.
+    ensures plain { ReadsPlain words.now (asked_of words.now) }
+    // Where the files tell their content: the answer that words and content determine is put out and reported. Words that
+    // `clap` refuses are answered by some text of its own.
+    ensures delivers { result ≢ 5 → (told : Text) × IfSome (wanted_of (F.content files.old) told (asked_of words.now))
         (λ w. Delivers w result (O.held out.old) (O.held out.new) (R.held report.old) (R.held report.new)) }
     // With no count that rose, the status is that answer's, or 7.
     ensures complete { ¬ Rose (F.faults files.old) (F.faults files.new) → ¬ Rose (O.faults out.old) (O.faults out.new) → ¬ Rose (R.faults report.old) (R.faults report.new)
-        → IfSome (wanted_of (F.content files.old) (asked_of words.now)) (λ w. (result ≡ w.status) ⊎ (result ≡ 7)) }
+        → (told : Text) × IfSome (wanted_of (F.content files.old) told (asked_of words.now)) (λ w. (result ≡ w.status) ⊎ (result ≡ 7)) }
+    // What no parse of words gives is answered by want of memory alone.
+    ensures answered { (result ≡ 7) ⊎ IsAnswered (asked_of words.now) }
     ensures usage { result ≡ 4 → IsUsage (asked_of words.now) }
     ensures usage_is_told { IsUsage (asked_of words.now) → (result ≡ 4) ⊎ (result ≡ 6) ⊎ (result ≡ 7) }
     ensures quiet { IsQuiet result → O.held out.new ≡ O.held out.old }
@@ -77,7 +84,7 @@ pub fn plain_top<F: Files, O: Sink, R: Sink>(
     ensures write_told { (O.faults out.old < O.faults out.new) ⊎ (R.faults report.old < R.faults report.new) → (6 ≤ result) × (result ≤ 7) }
     // After a write that failed, the report holds a front of what it would have held.
     ensures report_front { ¬ Rose (F.faults files.old) (F.faults files.new)
-        → IfSome (wanted_of (F.content files.old) (asked_of words.now)) (λ w. AppendsFront (R.held report.old) (R.held report.new) w.report) }
+        → (told : Text) × IfSome (wanted_of (F.content files.old) told (asked_of words.now)) (λ w. AppendsFront (R.held report.old) (R.held report.new) w.report) }
     ensures memory { result ≡ 7 → (O.held out.new ≡ O.held out.old) × (R.held report.new ≡ R.held report.old) }
 {
     match answer(alloc, words, files) {

@@ -1,7 +1,7 @@
 use Rattle.std.proofs.Common.{rules, arith, ◌≡◌, ◌∙◌, refl, ap, get_or}
-use Rattle.privateer_core.specs.Texts.{is_text}
-use Rattle.privateer_core.proofs.WordLemmas.{text_if_utf8, no_text_if_not_utf8, one_is_no_text, one_more_text, one_more_now}
-use Rattle.privateer_core.proofs.words.texts.Goals as goal
+use Rattle.command_words.specs.Texts.{is_text}
+use Rattle.command_words.proofs.TextLemmas.{text_if_utf8, no_text_if_not_utf8, one_is_no_text, one_more_text, one_more_now}
+use Rattle.command_words.proofs.texts.texts.Goals as goal
 
 pub returns-in-Err : goal.returns-in-Err
 returns-in-Err c =

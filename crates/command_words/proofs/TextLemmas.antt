@@ -6,7 +6,7 @@ use Rattle.std.specs.Prelude.{IsUtf8}
 use Rattle.std.specs.Str.{is_utf8}
 use Rattle.std.proofs.lemmas.Str.{IsUtf8-from_is_utf8, is_utf8-from_IsUtf8}
 use Rattle.pv_base.specs.Outside.{Text}
-use Rattle.privateer_core.specs.Texts.{is_text, are_texts}
+use Rattle.command_words.specs.Texts.{is_text, are_texts}
 
 pub text_if_utf8 : (b : Text) → IsUtf8 b → is_text b ≡ true
 unfolding is_text

@@ -1,0 +1,5 @@
+pub mod TextLemmas
+pub mod ReadLemmas
+pub mod PlainWalk
+pub mod Entered
+pub mod PlainReads
