@@ -1,9 +1,12 @@
 //! The canonical text of a module and of a site.
-ghost use Rattle.std.specs.Prelude.{◌≡◌, ◌<◌, length, IfOk};
+ghost use Rattle.std.specs.Prelude.{◌≡◌, ◌<◌, ◌++◌, length, IfOk, OnOk};
+ghost use Rattle.ir_tree.specs.Naming.{name_at};
 ghost use Rattle.ir_printer.specs.Items.{module_text, site_text};
+ghost use Rattle.ir_printer.specs.Pieces.{Global as GlobalName, spelled};
 
 use crate::items::{put_functions, put_globals, put_types};
 use crate::spelling::{put_decimal, put_global};
+use ir_tree::nodes::NameId;
 use ir_tree::whole::Module;
 use pv_base::bytes::Bytes;
 use pv_base::place::Site;
@@ -20,6 +23,13 @@ pub fn print_module(alloc: Global, module: &Module) -> Result<Bytes, Memory>
     put_globals(alloc, &mut text, module.names(), module.globals())?;
     put_functions(alloc, &mut text, module.names(), module.functions())?;
     Ok(text)
+}
+
+/// The name of a global or of a function, as the text spells it: `@name`.
+pub fn put_global_name(to: &mut Bytes, module: &Module, name: NameId) -> Result<(), Memory>
+    ensures { OnOk result (to.new ≡ to.old ++ spelled (GlobalName (name_at module.now.names name))) }
+{
+    put_global(to, module.names(), name)
 }
 
 /// A site as reports and profiles spell it: `@f:12`, by the function's name and the instruction's number in it.
