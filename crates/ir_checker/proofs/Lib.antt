@@ -1,3 +1,5 @@
 pub mod ConstantSame
 pub mod KindLemmas
 pub mod PhiLemmas
+pub mod FindingLemmas
+pub mod ScanLemmas

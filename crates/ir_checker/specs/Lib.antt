@@ -1,1 +1,4 @@
 pub mod ConstantClasses
+pub mod Ending
+pub mod Facts
+pub mod Finding
