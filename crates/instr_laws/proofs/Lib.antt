@@ -1,0 +1,11 @@
+pub mod Rows
+pub mod Opening
+pub mod Said
+pub mod Checked
+pub mod Chains
+pub mod FormLaws
+pub mod ControlLaws
+pub mod Trails
+pub mod MemoryLaws
+pub mod PhiLaws
+pub mod AddressLaws
