@@ -1,0 +1,6 @@
+//! Whole modules from their text.
+#![tactic(auto)]
+
+pub mod names;
+pub mod scope;
+pub mod skipped;
