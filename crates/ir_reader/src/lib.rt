@@ -4,3 +4,4 @@
 pub mod names;
 pub mod scope;
 pub mod skipped;
+pub mod params;

@@ -66,7 +66,8 @@ impl Scope {
 
     /// Counts a parameter without a name.
     pub fn count(&mut self) -> Result<(), Memory>
-        ensures { OnOk result ((later : Table) → scope_at later self.new ≡ spec.after_name (scope_at later self.old) None) }
+        ensures counts { OnOk result ((later : Table) → scope_at later self.new ≡ spec.after_name (scope_at later self.old) None) }
+        ensures same { OnOk result (self.new.defined ≡ self.old.defined) }
     {
         match self.next.checked_add(1) {
             Some(next) => {
