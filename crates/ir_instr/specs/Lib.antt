@@ -14,3 +14,4 @@ pub mod InstructionSpelled
 pub mod Scalars
 pub mod Defined
 pub mod Results
+pub mod Noting

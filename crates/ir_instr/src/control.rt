@@ -1,6 +1,6 @@
 //! `ret` and `br`, behind their words.
 
-ghost use Rattle.std.specs.Prelude.{◌≡◌, ◌<◌, length, IfOk, OnOk};
+ghost use Rattle.std.specs.Prelude.{◌≡◌, None, IfOk};
 ghost use Rattle.ir_tree.specs.Table.{Table};
 ghost use Rattle.ir_tree.specs.Naming.{Grows, name_at, type_at};
 ghost use Rattle.ir_tree.specs.Shown.{shown};
@@ -8,6 +8,7 @@ ghost use Rattle.ir_text.specs.Reading.{Reads};
 ghost use Rattle.ir_text.specs.Named.{known_of};
 ghost use Rattle.ir_text.specs.Reading.{token_by};
 ghost use Rattle.ir_instr.specs.Control as spec;
+ghost use Rattle.ir_instr.specs.Results.{result_of};
 
 use crate::parts::{Scalar, fixed_scalar, target, typed_operand};
 use ir_lex::token::{Cause, TokenKind};
@@ -53,6 +54,7 @@ fn condition_type(cursor: &mut Cursor<'_>) -> Result<(), ReadEnd>
 #[tactic(auto, using(ir_text::proofs::Later::later), unfolding(ir_tree::specs::Shown::shown))]
 fn jump(cursor: &mut Cursor<'_>, names: &mut Names) -> Result<Instruction, ReadEnd>
     ensures reads { (later : Table) → Grows names.new later → Reads (shown later) cursor.new result (spec.jump_at cursor.old) }
+    ensures result { IfOk result (λ i. result_of i ≡ None) }
     ensures grows { Grows names.old names.new }
 {
     let target = target(cursor, names)?;
@@ -67,6 +69,7 @@ fn branch(
     known: &NamedTypes,
 ) -> Result<Instruction, ReadEnd>
     ensures reads { (later : Table) → Grows names.new later → Reads (shown later) cursor.new result (spec.branch_at (known_of later known.now) cursor.old) }
+    ensures result { IfOk result (λ i. result_of i ≡ None) }
     ensures grows { Grows names.old names.new }
 {
     condition_type(cursor)?;
@@ -89,6 +92,7 @@ pub fn jump_or_branch(
     known: &NamedTypes,
 ) -> Result<Instruction, ReadEnd>
     ensures reads { (later : Table) → Grows names.new later → Reads (shown later) cursor.new result (spec.jump_or_branch_at (known_of later known.now) cursor.old) }
+    ensures result { IfOk result (λ i. result_of i ≡ None) }
     ensures grows { Grows names.old names.new }
 {
     match sees_word(cursor, b"label") {

@@ -1,6 +1,6 @@
 //! `load` and `store`, behind their words.
 
-ghost use Rattle.std.specs.Prelude.{◌≡◌, ◌<◌, length, IfOk, OnOk};
+ghost use Rattle.std.specs.Prelude.{◌≡◌, Some, None, IfOk};
 ghost use Rattle.ir_tree.specs.Table.{Table};
 ghost use Rattle.ir_tree.specs.Naming.{Grows, name_at, type_at};
 ghost use Rattle.ir_tree.specs.Shown.{shown};
@@ -8,6 +8,7 @@ ghost use Rattle.ir_text.specs.Reading.{Reads};
 ghost use Rattle.ir_text.specs.Named.{known_of};
 ghost use Rattle.ir_tree.specs.Shown.{shown_operand};
 ghost use Rattle.ir_instr.specs.Memory as spec;
+ghost use Rattle.ir_instr.specs.Results.{result_of};
 ghost use Rattle.ir_instr.specs.Parts.{pointer_at};
 
 use crate::parts::{Scalar, fixed_type, number, stored_type, typed_operand};
@@ -41,6 +42,7 @@ pub fn load(
     to: NameId,
 ) -> Result<Instruction, ReadEnd>
     ensures reads { (later : Table) → Grows names.new later → Reads (shown later) cursor.new result (spec.load_at (known_of later known.now) (name_at later to) cursor.old) }
+    ensures result { IfOk result (λ i. result_of i ≡ Some to) }
     ensures grows { Grows names.old names.new }
 {
     let scalar = stored_type(cursor)?;
@@ -58,6 +60,7 @@ pub fn store(
     known: &NamedTypes,
 ) -> Result<Instruction, ReadEnd>
     ensures reads { (later : Table) → Grows names.new later → Reads (shown later) cursor.new result (spec.store_at (known_of later known.now) cursor.old) }
+    ensures result { IfOk result (λ i. result_of i ≡ None) }
     ensures grows { Grows names.old names.new }
 {
     let scalar = stored_type(cursor)?;

@@ -1,12 +1,13 @@
 //! `select`, behind its word.
 
-ghost use Rattle.std.specs.Prelude.{◌≡◌, ◌<◌, length, IfOk, OnOk};
+ghost use Rattle.std.specs.Prelude.{◌≡◌, Some, None, IfOk};
 ghost use Rattle.ir_tree.specs.Table.{Table};
 ghost use Rattle.ir_tree.specs.Naming.{Grows, name_at, type_at};
 ghost use Rattle.ir_tree.specs.Shown.{shown};
 ghost use Rattle.ir_text.specs.Reading.{Reads};
 ghost use Rattle.ir_text.specs.Named.{known_of};
 ghost use Rattle.ir_instr.specs.Selecting as spec;
+ghost use Rattle.ir_instr.specs.Results.{result_of};
 
 use crate::parts::{Scalar, fixed_type, number, register, typed_operand};
 use ir_text::cursor::Cursor;
@@ -26,6 +27,7 @@ pub fn select(
     to: NameId,
 ) -> Result<Instruction, ReadEnd>
     ensures reads { (later : Table) → Grows names.new later → Reads (shown later) cursor.new result (spec.select_at (known_of later known.now) (name_at later to) cursor.old) }
+    ensures result { IfOk result (λ i. result_of i ≡ Some to) }
     ensures grows { Grows names.old names.new }
 {
     fixed_type(cursor, Scalar::Int(1))?;
