@@ -1,5 +1,5 @@
 -- What is read is taken: fewer tokens are left.
-use Rattle.std.proofs.Common.{◌≡◌, ℕ, ◌+◌, ◌≤◌, length, arith, Bool, true, false, cond, List, [], ◌∷◌, Result, Ok, Err, refl, sym, ap, subst, ◌∙◌, ◌⊎◌, inl, inr}
+use Rattle.std.proofs.Common.{◌≡◌, ℕ, ◌+◌, ◌≤◌, length, arith, Bool, true, false, cond, List, [], ◌∷◌, Option, None, Result, Ok, Err, refl, sym, ap, subst, ◌∙◌, ◌⊎◌, inl, inr}
 use Rattle.pv_base.specs.declared.name.Name.{Name}
 use Rattle.ir_tree.specs.declared.instruction.Operand.{Operand}
 use Rattle.ir_tree.specs.Trees.{TypeV, ConstantV}
@@ -9,10 +9,15 @@ use Rattle.ir_text.specs.Spelled.{one_token}
 use Rattle.ir_text.specs.Lawful.{anything}
 use Rattle.ir_text.specs.Types.{Known}
 use Rattle.ir_text.specs.Constants.{width_of}
+use Rattle.ir_text.specs.Leaves.{mark_at}
+use Rattle.ir_text.specs.Tails.{tail_at, a_tail, tails_at, some_tails}
+use Rattle.ir_text.specs.Trailing.{trailing_item, comma_item}
 use Rattle.ir_text.specs.Operands.{constant_at, a_constant, operand_at, an_operand}
+use Rattle.ir_text.proofs.TailLaws.{tail_laws, tails_laws}
+use Rattle.ir_instr.specs.Selecting.{arm_at}
 use Rattle.ir_text.proofs.Choices.{token_laws}
 use Rattle.ir_text.proofs.Persisting.{shortens}
-use Rattle.ir_text.proofs.Agreeing.{Shortens}
+use Rattle.ir_text.proofs.Agreeing.{Shortens, keeps}
 use Rattle.ir_text.proofs.OperandLaws.{constant_laws, constant_opens, operand_laws}
 
 -- fewer than so many are left
@@ -65,6 +70,16 @@ less_of n r ts s few = by_outcome n (r ts) (λ x e. let fewer = s ts x e in omeg
 pub shortens_by : {A : Type 0} (r : Reader A) → ((n : ℕ) (ts : List TokenV) → length ts ≤ n → Less n (r ts)) → Shortens r
 shortens_by r all ts x e = subst (Less (length ts)) e (all (length ts) ts (omega arith))
 
+-- no more tokens are left
+abbrev pub Keeps : {A : Type 0} → Reader A → Type 0
+Keeps {A} r = (ts : List TokenV) (x : A × List TokenV) → r ts ≡ Ok x → length x.1 ≤ length ts
+
+pub most_of : {A : Type 0} (n : ℕ) (r : Reader A) (ts : List TokenV) → Keeps r → length ts ≤ n → Most n (r ts)
+most_of n r ts k few = most_outcome n (r ts) (λ x e. let fewer = k ts x e in omega arith)
+
+pub still_less : {A : Type 0} (n : ℕ) (r : Reader A) (ts : List TokenV) → Keeps r → 1 + length ts ≤ n → Less n (r ts)
+still_less n r ts k few = by_outcome n (r ts) (λ x e. let fewer = k ts x e in omega arith)
+
 -- ---- single tokens and operands
 
 pub token_less : {A : Type 0} (means : Meaning A) (n : ℕ) (ts : List TokenV) → length ts ≤ n → Less n (token_by means ts)
@@ -81,3 +96,32 @@ module _ (known : Known) where
   operand_less type n ts few =
       choose_less n _ _ _ (token_less _ n ts few)
       (then_less n (constant_at known (width_of type) ts) _ (constant_less (width_of type) n ts few) (λ x h. h))
+
+-- ---- what is passed over
+
+pub tail_keeps : Keeps tail_at
+tail_keeps ts x e = keeps 0 anything tail_at a_tail (tail_laws 0) ts x e
+
+pub tails_keep : Keeps tails_at
+tails_keep ts x e = keeps 0 _ tails_at some_tails (tails_laws 0) ts x e
+
+module _ {A : Type 0} (begins : TokenV → Bool) (item : Reader A) (less : (n : ℕ) (ts : List TokenV) → length ts ≤ n → Less n (item ts)) where
+  passed_less : (n : ℕ) (ts : List TokenV) → 1 + length ts ≤ n → Less n (tail_at ts >>= λ x. let o : Option A = None in Ok (o, x.1))
+  passed_less n ts few = then_less n (tail_at ts) _ (still_less n tail_at ts tail_keeps few) (λ x h. h)
+
+  trailing_less : (more : Bool) (n : ℕ) (ts : List TokenV) → 1 + length ts ≤ n → Less n (trailing_item begins item more ts)
+  trailing_less true n ts few = choose_less n _ _ _ (then_less n (item ts) _ (less n ts (omega arith)) (λ x h. h)) (passed_less n ts few)
+  trailing_less false n ts few = passed_less n ts few
+
+  pub comma_item_less : (more : Bool) → Shortens (comma_item begins item more)
+  comma_item_less more = shortens_by (comma_item begins item more) (λ n ts few. then_less n (mark_at 44 ts) _ (token_less _ n ts few) (λ x h. trailing_less more n x.1 h))
+
+-- ---- arms
+
+pub arm_less : (known : Known) (type : TypeV) (n : ℕ) (ts : List TokenV) → length ts ≤ n → Less n (arm_at known type ts)
+arm_less known type n ts few =
+    then_less n _ _ (token_less _ n ts few) (λ a la.
+    then_less n _ _ (operand_less known type n a.1 (omega arith)) (λ b lb.
+    then_less n _ _ (token_less _ n b.1 (omega arith)) (λ c lc.
+    then_less n _ _ (token_less _ n c.1 (omega arith)) (λ d ld.
+    then_less n _ _ (token_less _ n d.1 (omega arith)) (λ e le. le)))))

@@ -15,3 +15,4 @@ pub mod Scalars
 pub mod Defined
 pub mod Results
 pub mod Noting
+pub mod Gathering
