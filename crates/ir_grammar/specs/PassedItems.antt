@@ -62,11 +62,18 @@ comdat_at ts = do
 
 -- ---- behind a declaration
 
--- the rest of !word !N, of which more may follow, or of an item !word = .., behind which the declaration is over
+-- !N, and more may follow
+abbrev pub note_end : Reader Bool
+note_end ts = mark_at 33 ts >>= λ sign. token_by some_integer sign.1 >>= λ number. Ok (true, number.1)
+
+-- the rest of an item, behind which the declaration is over
+abbrev pub item_end : Reader Bool
+item_end ts = equals_group ts >>= λ item. Ok (false, item.1)
+
+-- behind `!` and a word or a number: the rest of !word !N, or of an item
 abbrev pub attached_end : Bool → Reader Bool
-attached_end named = choose (λ t. named && is_mark 33 t)
-    (λ ts. mark_at 33 ts >>= λ sign. token_by some_integer sign.1 >>= λ number. Ok (true, number.1))
-    (λ ts. equals_group ts >>= λ item. Ok (false, item.1))
+attached_end true = choose (is_mark 33) note_end item_end
+attached_end false = item_end
 
 abbrev pub attached_one : Reader Bool
 attached_one ts = do

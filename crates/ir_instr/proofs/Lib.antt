@@ -1,1 +1,4 @@
 pub mod Kept
+pub mod Shrinking
+pub mod FlagTurns
+pub mod KeptTurns

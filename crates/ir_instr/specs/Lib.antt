@@ -14,3 +14,5 @@ pub mod InstructionSpelled
 pub mod Scalars
 pub mod Defined
 pub mod Results
+pub mod Noting
+pub mod Gathering

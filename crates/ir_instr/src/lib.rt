@@ -1,9 +1,12 @@
 //! Instructions of module text.
 #![tactic(auto)]
 
+pub mod arithmetic;
 pub mod casts;
+pub mod comparing;
 pub mod control;
 pub mod defined;
+pub mod flags;
 pub mod instructions;
 pub mod memory;
 pub mod parts;

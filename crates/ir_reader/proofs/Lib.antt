@@ -1,0 +1,4 @@
+pub mod Naming
+pub mod Scopes
+pub mod Skipping
+pub mod Entries
