@@ -1,9 +1,9 @@
 -- The arm of a label, by its place.
 use Rattle.std.proofs.Common.{◌≡◌, ℕ, suc, Bool, true, false, List, [], ◌∷◌, map, slice_get, Option, Some, None, nat_eq, refl, sym, ◌∙◌, ap}
-use Rattle.std.specs.Prelude.{if◌then◌else◌, option_map, option_and_then, find}
+use Rattle.std.specs.Prelude.{if◌then◌else◌, option_map, option_and_then}
 use Rattle.ir_tree.specs.declared.instruction.Arm.{Arm}
 use Rattle.ir_tree.specs.declared.instruction.Operand.{Operand as Named}
-use Rattle.ir_code.specs.Places.{place_of, is_name}
+use Rattle.ir_code.specs.Places.{place_of}
 use Rattle.ir_code.proofs.Noted.{place_below}
 use Rattle.std.proofs.Common.{◌<◌, length, arith}
 use Rattle.std.proofs.lemmas.List.{length-map}

@@ -14,8 +14,6 @@ use Rattle.ir_code.specs.declared.op.Op.{Op}
 use Rattle.ir_code.specs.declared.op.Scalar.{Scalar}
 use Rattle.ir_code.specs.declared.code.Edge.{Edge}
 use Rattle.ir_code.specs.declared.code.BlockCode.{BlockCode}
-use Rattle.ir_code.specs.declared.code.FunctionCode.{FunctionCode}
-use Rattle.ir_code.specs.Exits.{Leading}
 use Rattle.ir_code.specs.Tables.{Tables, scalar_at, scalar_or_pointer, linkage_of, external_of}
 use Rattle.ir_code.specs.Blocks.{Scope, Join, targets_of, with_exit, joins_of, edges_of, ops_of, block_of, blocks_from, registers_of}
 use Rattle.ir_code.specs.Adding.{AreOwn, Adds}

@@ -1,11 +1,9 @@
 -- How indices go on from a type to the next.
-use Rattle.std.proofs.Common.{◌≡◌, ℕ, zero, suc, ◌+◌, ◌<◌, List, [], ◌∷◌, ◌++◌, length, Option, Some, None, slice_get, get_or, refl, sym, ap, ◌∙◌, arith, All, append_assoc, drop, drop-cons, add-one}
+use Rattle.std.proofs.Common.{◌≡◌, ℕ, zero, suc, ◌+◌, ◌<◌, List, [], ◌∷◌, ◌++◌, length, Option, Some, None, slice_get, get_or, refl, sym, ap, ◌∙◌, append_assoc, drop, drop-cons, add-one}
 use Rattle.std.specs.Prelude.{option_map, option_and_then}
 use Rattle.std.proofs.lemmas.List.{append-nil}
-use Rattle.std.proofs.lemmas.Option.{slice_get_within, get_or_from_slice_get}
 use Rattle.ir_tree.specs.declared.nodes.TypeNode.{TypeNode}
-use Rattle.ir_tree.specs.declared.nodes.TypeNode.TheVariants as node
-use Rattle.ir_tree.specs.Table.{Table, IsTable, TypeWithin}
+use Rattle.ir_tree.specs.Table.{IsTable}
 use Rattle.ir_tree.specs.Trees.{TypeV}
 use Rattle.ir_tree.specs.Naming.{name_at, type_at, types_at, types_by, type_of_node}
 use Rattle.ir_tree.specs.Layouts.{field_type, opened}

@@ -1,14 +1,13 @@
 -- The edges of a block, as they are added.
-use Rattle.std.proofs.Common.{◌≡◌, ℕ, ◌+◌, ◌<◌, List, [], ◌∷◌, ◌++◌, map, length, take, get_or, Option, Some, None, Bool, true, false, is_some, refl, sym, ◌∙◌, ap, append_assoc}
-use Rattle.std.specs.Prelude.{fold, if◌then◌else◌}
+use Rattle.std.proofs.Common.{◌≡◌, ℕ, ◌+◌, ◌<◌, List, [], ◌∷◌, ◌++◌, map, length, take, get_or, Option, Some, None, true, false, is_some, refl, sym, ◌∙◌, ap, append_assoc}
+use Rattle.std.specs.Prelude.{fold}
 use Rattle.std.specs.List.{flat_map}
-use Rattle.std.specs.Option.{option_map_or}
 use Rattle.std.proofs.lemmas.List.{take_more, append-nil}
 use Rattle.ir_code.specs.declared.code.Edge.{Edge}
 use Rattle.ir_code.specs.Tables.{Tables}
 use Rattle.ir_code.specs.Places.{place_of}
-use Rattle.ir_code.specs.Blocks.{Scope, targets_of, with_target, with_exit, edge_to}
-use Rattle.ir_code.specs.Adding.{AreOwn, AddsTarget, Adds}
+use Rattle.ir_code.specs.Blocks.{Scope, targets_of, with_exit, edge_to}
+use Rattle.ir_code.specs.Adding.{AddsTarget, Adds}
 
 map-append : {A B : Type 0} (f : A → B) (xs ys : List A) → map f (xs ++ ys) ≡ map f xs ++ map f ys
 map-append f [] ys = refl

@@ -14,3 +14,4 @@ pub mod Opening
 pub mod Assembling
 pub mod Ranges
 pub mod Nodes
+pub mod Fits

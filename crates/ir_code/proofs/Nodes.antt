@@ -1,14 +1,13 @@
 -- What is found by number is what is defined.
-use Rattle.std.proofs.Common.{◌≡◌, ℕ, zero, suc, ◌<◌, List, [], ◌∷◌, length, get_or, slice_get, Option, Some, None, refl, sym, ◌∙◌, ap, arith}
+use Rattle.std.proofs.Common.{◌≡◌, ℕ, zero, suc, ◌<◌, List, [], ◌∷◌, length, slice_get, Option, Some, None, refl, sym, ◌∙◌, ap, arith}
 use Rattle.std.specs.Prelude.{option_map, slice_index_or}
 use Rattle.ir_tree.specs.declared.nodes.ConstantNode.{ConstantNode}
 use Rattle.ir_tree.specs.declared.nodes.ConstantNode.TheVariants as node
-use Rattle.ir_tree.specs.Table.{Table, IsTable}
-use Rattle.ir_tree.specs.Trees.{PtrV, ConstantV}
+use Rattle.ir_tree.specs.Table.{IsTable}
+use Rattle.ir_tree.specs.Trees.{PtrV}
 use Rattle.ir_tree.specs.Naming.{name_at, type_at, constant_at, constant_of_node}
 use Rattle.ir_tree.specs.Modules.{Items}
 use Rattle.ir_code.specs.declared.op.Fixed.{Fixed}
-use Rattle.ir_code.specs.declared.lookups.Constant.{Constant}
 use Rattle.ir_code.specs.declared.lookups.Constant.TheVariants as constant
 use Rattle.ir_code.specs.Fixed.{fixed_of, AreFixed}
 use Rattle.ir_code.specs.Coding.{constant_of, constant_in}

@@ -1,5 +1,5 @@
 -- The phis that a block begins with are instructions of it.
-use Rattle.std.proofs.Common.{◌≡◌, ℕ, suc, ◌≤◌, List, [], ◌∷◌, length, Option, Some, None, arith}
+use Rattle.std.proofs.Common.{ℕ, suc, ◌≤◌, List, [], ◌∷◌, length, Option, Some, None, arith}
 use Rattle.ir_tree.specs.declared.instruction.Instruction.{Instruction}
 use Rattle.ir_code.specs.Blocks.{Join, join_of, joins_of, before_joins}
 

@@ -1,6 +1,6 @@
 -- Tables of names and cases.
-use Rattle.std.proofs.Common.{◌≡◌, ℕ, Bool, true, false, List, ◌∷◌, [], ◌++◌, Option, Some, None, is_some, refl, sym, ◌∙◌, ap, nat_eq}
-use Rattle.indexmap.specs.IndexMap.{IndexMap, insert_entry, get}
+use Rattle.std.proofs.Common.{◌≡◌, ℕ, false, List, ◌∷◌, [], ◌++◌, Option, Some, None, is_some, refl, sym, ◌∙◌, ap, nat_eq}
+use Rattle.indexmap.specs.IndexMap.{IndexMap, insert_entry}
 use Rattle.indexmap.proofs.CallerLemmas.{insert_entry-new}
 use Rattle.ir_code.specs.Cases.{edge_of, with_case}
 

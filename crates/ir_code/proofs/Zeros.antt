@@ -1,10 +1,10 @@
 -- `zeroinitializer` by a type's number.
-use Rattle.std.proofs.Common.{◌≡◌, ℕ, zero, suc, List, [], ◌∷◌, ◌++◌, Some, None, slice_get, get_or, refl, sym, ap, ◌∙◌}
+use Rattle.std.proofs.Common.{◌≡◌, ℕ, Some, slice_get, refl, sym, ap, ◌∙◌}
 use Rattle.pv_base.specs.declared.name.Name.{Name}
 use Rattle.ir_tree.specs.declared.nodes.TypeNode.{TypeNode}
 use Rattle.ir_tree.specs.declared.nodes.TypeNode.TheVariants as node
 use Rattle.ir_tree.specs.Table.{Table, IsTable}
-use Rattle.ir_tree.specs.Trees.{TypeV, PtrV, NullC}
+use Rattle.ir_tree.specs.Trees.{TypeV}
 use Rattle.ir_tree.specs.Naming.{name_at, type_at, type_of_node}
 use Rattle.ir_tree.proofs.Filled.{type_is}
 use Rattle.ir_code.specs.Fixed.{zero_of}

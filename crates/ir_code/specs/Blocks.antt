@@ -1,5 +1,5 @@
 -- The registers, edges and blocks of a function.
-use Rattle.std.specs.Prelude.{ℕ, ◌+◌, List, [], ◌∷◌, ◌++◌, length, map, fold, drop, replicate, find, nat_eq, Bool, true, false, Option, Some, None, option_map, unwrap_or, is_some, slice_index_or, position, if◌then◌else◌}
+use Rattle.std.specs.Prelude.{ℕ, ◌+◌, List, [], ◌∷◌, ◌++◌, length, map, fold, drop, replicate, find, nat_eq, Option, Some, None, option_map, unwrap_or, is_some, slice_index_or, if◌then◌else◌}
 use Rattle.std.specs.List.{filter_map, flat_map}
 use Rattle.std.specs.Option.{option_map_or}
 use Rattle.ir_tree.specs.declared.instruction.Operand.{Operand as Named}
@@ -11,7 +11,6 @@ use Rattle.ir_tree.specs.declared.items.Block.{Block}
 use Rattle.ir_tree.specs.declared.items.Function.{Function}
 use Rattle.ir_tree.specs.Modules.{Items}
 use Rattle.ir_code.specs.declared.registers.Register.{Register}
-use Rattle.ir_code.specs.declared.op.Scalar.{Scalar}
 use Rattle.ir_code.specs.declared.op.Scalar.TheVariants as scalar
 use Rattle.ir_code.specs.declared.op.Op.{Op}
 use Rattle.ir_code.specs.declared.op.Op.TheVariants as op

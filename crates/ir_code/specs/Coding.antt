@@ -1,12 +1,11 @@
 -- A module with its names resolved.
-use Rattle.std.specs.Prelude.{ℕ, List, map, Bool, false, Option, Some, None, option_map, option_and_then, slice_get, position, length, codes, if◌then◌else◌}
+use Rattle.std.specs.Prelude.{ℕ, map, Bool, false, Option, Some, None, option_map, option_and_then, slice_get, position, length, codes, if◌then◌else◌}
 use Rattle.std.specs.List.{flat_map, range_with_len}
 use Rattle.std.specs.Str.{bytes_eq}
 use Rattle.pv_base.specs.Outside.{Text}
 use Rattle.pv_base.specs.declared.name.Name.{Name}
 use Rattle.pv_base.specs.declared.name.Name.TheVariants.{Named, Numbered}
 use Rattle.ir_tree.specs.declared.items.Function.{Function}
-use Rattle.ir_tree.specs.declared.items.Block.{Block}
 use Rattle.ir_tree.specs.Table.{Table}
 use Rattle.ir_tree.specs.Modules.{Items, layout_in}
 use Rattle.ir_tree.specs.Trees.{PtrV, ConstantV, IntegerC, NullC, ZeroC, TextC, ArrayC, StructC, NameC, AddressC}

@@ -1,6 +1,6 @@
 -- Each instruction with its names resolved, by families. None where it breaks a rule of modules: a name that is not defined, a
 -- type that no register has, a constant that no register holds, or a size that is missing.
-use Rattle.std.specs.Prelude.{ℕ, ◌+◌, ◌-◌, ◌*◌, ◌^◌, ◌||◌, min, nat_eq, List, [], ◌∷◌, map, fold, Bool, true, false, Option, Some, None, option_map, option_and_then, unwrap_or, slice_index_or, if◌then◌else◌}
+use Rattle.std.specs.Prelude.{ℕ, ◌-◌, ◌*◌, ◌^◌, ◌||◌, min, nat_eq, List, [], fold, Bool, true, Option, Some, None, option_map, slice_index_or, if◌then◌else◌}
 use Rattle.int_num.specs.declared.ops.BinOp.{BinOp}
 use Rattle.int_num.specs.declared.ops.CastOp.{CastOp}
 use Rattle.int_num.specs.declared.ops.Flags.{Flags}

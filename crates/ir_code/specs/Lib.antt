@@ -10,6 +10,7 @@ pub mod Blocks
 pub mod Adding
 pub mod Coding
 pub mod Found
+pub mod Fitting
 pub mod Strides
 pub mod Fixed
 pub mod Leading

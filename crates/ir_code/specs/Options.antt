@@ -1,5 +1,5 @@
 -- Options one after another, and over lists.
-use Rattle.std.specs.Prelude.{List, [], ◌∷◌, Option, Some, None, option_and_then}
+use Rattle.std.specs.Prelude.{List, [], ◌∷◌, Option, Some, option_and_then}
 
 infixl 10 ◌>>=◌
 -- the rest, from the value, where there is one

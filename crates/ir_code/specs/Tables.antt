@@ -1,22 +1,18 @@
 -- What is found once of a module, by the numbers of its types, constants and functions.
-use Rattle.std.specs.Prelude.{◌≡◌, ℕ, List, Option, Some, None, option_and_then, option_map, unwrap_or, slice_get, slice_index_or, map, ◌&&◌, nat_le, if◌then◌else◌}
+use Rattle.std.specs.Prelude.{ℕ, List, Option, Some, None, option_and_then, unwrap_or, slice_index_or, if◌then◌else◌}
 use Rattle.pv_base.specs.declared.name.Name.{Name}
 use Rattle.pv_base.specs.declared.name.Name.TheVariants as name
 use Rattle.pv_base.specs.declared.external.External.{External}
 use Rattle.seq_calls.specs.Names.{known}
-use Rattle.int_num.specs.Integer.{Integer}
 use Rattle.ir_tree.specs.declared.nodes.TypeNode.{TypeNode}
 use Rattle.ir_tree.specs.declared.nodes.TypeNode.TheVariants as node
-use Rattle.ir_tree.specs.declared.layout.Layout.{Layout}
 use Rattle.ir_tree.specs.declared.items.Function.{Function}
 use Rattle.ir_tree.specs.Table.{Table}
 use Rattle.ir_tree.specs.Trees.{TypeV, IntV, PtrV}
 use Rattle.ir_tree.specs.Naming.{name_at}
-use Rattle.ir_tree.specs.Modules.{Items, layout_in}
 use Rattle.ir_code.specs.declared.op.Scalar.{Scalar}
 use Rattle.ir_code.specs.declared.op.Scalar.TheVariants as scalar
 use Rattle.ir_code.specs.declared.op.Fixed.{Fixed}
-use Rattle.ir_code.specs.declared.op.Fixed.TheVariants as fixed
 use Rattle.ir_code.specs.Fixed.{zero_of}
 use Rattle.ir_code.specs.declared.lookups.Constant.{Constant}
 use Rattle.ir_code.specs.declared.lookups.Constant.TheVariants as constant

@@ -64,11 +64,13 @@ pub struct Code {
 
 impl Code {
     ghost use Rattle.ir_code.specs.Coding.{code_of};
+    ghost use Rattle.ir_code.specs.Fitting.{CodeFits};
 
     /// A module with its names resolved, in time linear in the module but for looking names up.
     #[tactic(auto, unfolding(crate::specs::Coding::code_of))]
     pub fn new(alloc: Global, module: &Module) -> Result<Code, Memory>
-        ensures { IfOk result (λ code. code ≡ code_of «module».now) }
+        ensures code { IfOk result (λ code. code ≡ code_of «module».now) }
+        ensures fits { IfOk result CodeFits }
     {
         let functions = module.functions();
         if functions.len() > NUMBERS {
@@ -84,6 +86,7 @@ impl Code {
 }
 
 ghost use Rattle.ir_code.specs.Coding.{function_of, is_main};
+ghost use Rattle.ir_code.specs.Fitting.{FunctionsFit};
 
 fn functions_of(
     alloc: Global,
@@ -93,7 +96,8 @@ fn functions_of(
 ) -> Result<List<FunctionCode>, Memory>
     requires sizes { length lookups.now.sizes ≡ length «module».now.names.types }
     requires linkages { lookups.now.linkages ≡ map (linkage_of «module».now.names) functions.now }
-    ensures { IfOk result (λ fs. fs ≡ map (function_of «module».now lookups.now) functions.now) }
+    ensures code { IfOk result (λ fs. fs ≡ map (function_of «module».now lookups.now) functions.now) }
+    ensures fits { IfOk result FunctionsFit }
 {
     let mut all = List::new(alloc);
     for number in 0..functions.len() {

@@ -3,6 +3,7 @@ ghost use Rattle.std.specs.Prelude.{◌≡◌, ◌+◌, ◌<◌, ◌^◌, ◌++�
 ghost use Rattle.std.specs.List.{flat_map};
 ghost use Rattle.ir_code.specs.Tables.{scalar_or_pointer, linkage_of};
 ghost use Rattle.ir_code.specs.Blocks.{joins_of, edges_of, block_of, blocks_from};
+ghost use Rattle.ir_code.specs.Fitting.{BlocksFit};
 ghost use Rattle.ir_code.specs.Coding.{scope_of, function_of};
 
 use crate::code::{BlockCode, Edge, FunctionCode};
@@ -38,6 +39,7 @@ fn block_of(
     ensures code { IfOk result (λ b. b ≡ block_of «module».now lookups.now scope.now first (length edges.old) block.now) }
     ensures edges { OnOk result (edges.new ≡ edges.old ++ edges_of lookups.now scope.now block.now) }
     ensures count { OnOk result (first + length block.now.instructions < 2 ^ 32) }
+    ensures fits { IfOk result (λ b. b.first + length b.ops < 2 ^ 32) }
 {
     let instructions = block.instructions.as_slice();
     let first_edge = edges.len();
@@ -70,6 +72,7 @@ fn blocks_of(
     requires { length lookups.now.sizes ≡ length «module».now.names.types }
     ensures code { IfOk result (λ bs. bs ≡ blocks_from «module».now lookups.now scope.now 0 (length edges.old) all.now) }
     ensures edges { OnOk result (edges.new ≡ edges.old ++ flat_map (edges_of lookups.now scope.now) all.now) }
+    ensures fits { IfOk result BlocksFit }
 {
     let mut blocks = List::new(alloc);
     let mut first = 0;
@@ -112,7 +115,8 @@ pub(crate) fn function_of(
 ) -> Result<FunctionCode, Memory>
     requires sizes { length lookups.now.sizes ≡ length «module».now.names.types }
     requires linkage { linkage ≡ linkage_of «module».now.names function.now }
-    ensures { IfOk result (λ f. f ≡ function_of «module».now lookups.now function.now) }
+    ensures code { IfOk result (λ f. f ≡ function_of «module».now lookups.now function.now) }
+    ensures fits { IfOk result (λ f. BlocksFit f.blocks) }
 {
     let blocks = function.blocks.as_slice();
     let registers = registers_of(alloc, lookups, function)?;

@@ -1,8 +1,5 @@
-use Rattle.std.proofs.Common.{◌≡◌, ℕ, drop}
-use Rattle.std.specs.Prelude.{option_map, fold}
-use Rattle.ir_code.specs.Options.{every}
 use Rattle.ir_code.specs.Places.{exit_at}
-use Rattle.ir_code.specs.Families.{case_at, cases_at}
+use Rattle.ir_code.specs.Families.{case_at}
 use Rattle.ir_code.proofs.Switching.{CasesTo}
 use Rattle.ir_code.proofs.exits.cases.Given as goal
 

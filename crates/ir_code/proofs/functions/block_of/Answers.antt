@@ -1,8 +1,9 @@
 use Rattle.std.specs.Prelude.{fold, []}
-use Rattle.std.proofs.Common.{◌≡◌, ◌+◌, ◌≤◌, length, ap, sym, ◌∙◌, arith}
+use Rattle.std.proofs.Common.{◌≡◌, ◌≤◌, length, ap, ◌∙◌, arith}
 use Rattle.std.specs.List.{flat_map}
 use Rattle.ir_code.specs.Blocks.{exits_of, joins_of, targets_of, with_exit}
 use Rattle.ir_code.proofs.Opening.{joins_within}
+use Rattle.ir_code.proofs.Fits.{ops_counted}
 use Rattle.ir_code.proofs.Assembling.{own_added, own_counted, block_right}
 use Rattle.ir_code.proofs.functions.block_of.Goals as goal
 
@@ -33,3 +34,8 @@ returns-clause-code c =
     c.len-first_edge.ensures
     (own.targets_is ∙ ap (λ l. targets_of (fold (with_exit c.args.lookups.now c.args.scope.now c.args.block.now.label) [] (flat_map exits_of l))) c.as_slice-instructions.ensures)
     c.in_ok-ops.ensures
+
+pub returns-clause-fits : goal.returns-clause-fits
+returns-clause-fits c =
+    let count = ops_counted c.args.module.now c.args.lookups.now c.args.scope.now (record { first = c.len-first_edge.result; targets = c.in_ok-targets.targets }) c.as_slice-instructions.result.now c.in_ok-ops.ops c.in_ok-ops.ensures in
+    omega arith

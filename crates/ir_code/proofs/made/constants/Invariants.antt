@@ -1,6 +1,5 @@
 use Rattle.std.proofs.Common.{◌≡◌, map}
 use Rattle.std.specs.List.{range_with_len}
-use Rattle.ir_code.specs.Fixed.{AreFixed}
 use Rattle.ir_code.specs.Coding.{constant_in}
 use Rattle.ir_code.proofs.made.constants.Given as goal
 

@@ -1,4 +1,4 @@
-use Rattle.std.proofs.Common.{◌≡◌, ◌∙◌, sym, ap, slice_get, Some}
+use Rattle.std.proofs.Common.{◌∙◌, sym, ap}
 use Rattle.std.specs.Prelude.{option_map}
 use Rattle.ir_code.proofs.Arms.{arm_none, arm_some, arm_within}
 use Rattle.ir_code.specs.Blocks.{arm_from}
