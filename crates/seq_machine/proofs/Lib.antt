@@ -1,3 +1,9 @@
+pub mod Totals
+pub mod Wraps
+pub mod TextLoop
+pub mod Printing
+pub mod TextLists
+pub mod Addressing
 pub mod WordLoops
 pub mod Follow
 pub mod Operands

@@ -1,5 +1,5 @@
 -- What the instructions on memory do (LLVM Language Reference, "Memory Access and Addressing Operations").
-use Rattle.std.specs.Prelude.{ℕ, ◌==◌, ◌&&◌, List, [], ◌∷◌, slice_get, Option, None, Some, Result, Ok, Err, Bool, true, false, ℤ, pos, ◌+ℤ◌, ◌*ℤ◌, int_le, if◌then◌else◌}
+use Rattle.std.specs.Prelude.{ℕ, ◌==◌, ◌&&◌, ◌^◌, List, [], ◌∷◌, slice_get, Option, None, Some, Result, Ok, Err, Bool, true, false, ℤ, pos, ◌+ℤ◌, ◌*ℤ◌, int_le, if◌then◌else◌}
 use Rattle.int_num.specs.Integer.{signed}
 use Rattle.int_num.specs.Operations.{modulo, residue}
 use Rattle.pv_base.specs.declared.place.Site.{Site}
@@ -14,6 +14,7 @@ use Rattle.mem_image.specs.declared.object.Kind.TheVariants.{Stack}
 use Rattle.mem_image.specs.declared.fault.Trap.{Trap}
 use Rattle.mem_image.specs.declared.fault.Trap.TheVariants.{Unreachable, Dead, Inbounds, Null as NullTrap}
 use Rattle.mem_image.specs.Calls.{Reply, ReadWord, WriteWord, Make, Bytes, Made, Done}
+use Rattle.seq_machine.specs.declared.addresses.Total.{Total}
 use Rattle.seq_machine.specs.declared.state.Value.TheVariants.{Pointer}
 use Rattle.seq_machine.specs.declared.state.Frame.{Frame}
 use Rattle.seq_machine.specs.declared.state.Effect.{Effect}
@@ -71,6 +72,10 @@ abbrev pub distance : Frame → List Index → Result ℤ Trap
 distance f [] = Ok (pos 0)
 distance f (i ∷ is) = then_ (term f i) (λ t. then_ (distance f is) (λ d. Ok (t +ℤ d)))
 
+-- the sum that the code keeps in two parts
+abbrev pub exact : Total → ℤ
+exact d = d.low +ℤ d.turns *ℤ pos (2 ^ 128)
+
 -- a number modulo 2^64, as a signed one
 abbrev pub wrapped : ℤ → ℤ
 wrapped z = signed (modulo 64 z)
@@ -88,10 +93,10 @@ moved (Obj name offset) d = Ok (Obj name (wrapped (offset +ℤ d)))
 abbrev pub inside : ℤ → ℕ → Bool
 inside offset size = int_le (pos 0) offset && int_le offset (pos size)
 
--- both places are in the object: the address, and where it is moved to, without wrapping
+-- both places are in the object: the address, and where it is moved to, which is tested before it is wrapped
 abbrev pub moved_inside : ℕ → ℤ → ℤ → Option ℕ → Result Address Trap
 moved_inside name offset d None = Err Dead
-moved_inside name offset d (Some size) = if inside offset size && inside (offset +ℤ d) size then Ok (Obj name (offset +ℤ d)) else Err Inbounds
+moved_inside name offset d (Some size) = if inside offset size && inside (offset +ℤ d) size then moved (Obj name offset) d else Err Inbounds
 
 abbrev pub move : Bool → Address → ℤ → Script Address
 move true (Obj name offset) d = Sizes (Obj name offset) (λ size. tell (moved_inside name offset d size))

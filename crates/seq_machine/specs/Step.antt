@@ -9,8 +9,6 @@ use Rattle.ir_code.specs.declared.op.Op.TheVariants as op
 use Rattle.ir_code.specs.declared.code.BlockCode.{BlockCode}
 use Rattle.ir_code.specs.declared.code.FunctionCode.{FunctionCode}
 use Rattle.ir_code.specs.declared.code.Code.{Code}
-use Rattle.pv_base.specs.declared.external.External.{External}
-use Rattle.pv_base.specs.declared.external.External.TheVariants as external
 use Rattle.mem_image.specs.declared.fault.Trap.{Trap as TrapWord}
 use Rattle.mem_image.specs.declared.fault.Trap.TheVariants.{Unreachable}
 use Rattle.mem_image.specs.declared.fault.Fault.{Fault}
@@ -141,28 +139,6 @@ EffectFor code g (op.Switch v d cases) e = IsEdge e
 EffectFor code g op.Unreachable e = ⊥
 EffectFor code g op.Stuck e = ⊥
 EffectFor code g _ e = Sets g.registers e
-
--- ---- what the code does so far
-
--- a call that is done: texts are not yet
-abbrev pub IsCoveredCall : External → Type 0
-IsCoveredCall external.Puts = ⊥
-IsCoveredCall external.Printf = ⊥
-IsCoveredCall _ = Unit {0}
-
--- an instruction that is done: addresses are not yet
-abbrev pub IsCovered : Op → Type 0
-IsCovered (op.Address to inbounds base indices) = ⊥
-IsCovered (op.CallExternal to e arguments) = IsCoveredCall e
-IsCovered _ = Unit {0}
-
-abbrev pub IsCoveredAt : Option Op → Type 0
-IsCoveredAt (Some o) = IsCovered o
-IsCoveredAt None = Unit {0}
-
--- all instructions of the code are done
-abbrev pub AreCovered : Code → Type 0
-AreCovered code = (f : Frame) → IsCoveredAt (op_at code f)
 
 -- ---- runs
 

@@ -4,14 +4,16 @@ ghost use Rattle.seq_machine.specs.Script.{Follows};
 ghost use Rattle.seq_machine.specs.Values.{Sets};
 ghost use Rattle.seq_machine.specs.Externals.{called_external};
 ghost use Rattle.seq_machine.specs.Meaning.{meaning};
-ghost use Rattle.seq_machine.specs.Step.{EffectFor, lifted, IsCovered, IsCoveredCall};
+ghost use Rattle.seq_machine.specs.Step.{EffectFor, lifted};
 ghost use Rattle.seq_machine.specs.Effects.{MayStop};
 
 use crate::accesses::{alloca, load, store};
+use crate::addresses::address;
 use crate::externals::{calloc, exit, extreme, free, getchar, malloc, memset, putchar, transfer};
 use crate::flow::{branch, call, call_pointer, end, switch};
 use crate::numbers::{calculate, compare_operands, convert, freeze, select};
 use crate::state::{Effect, Frame};
+use crate::texts::{printf, puts};
 use int_num::ops::Pred;
 use ir_code::code::{Code, FunctionCode};
 use ir_code::op::{Op, Operand, Scalar};
@@ -45,7 +47,6 @@ fn call_external<M: Mem>(
     arguments: &List<Operand>,
 ) -> Result<Effect, Fault>
     requires ready { M.ready memory.old }
-    requires covered { IsCoveredCall external }
     ensures ready { M.ready memory.new }
     ensures follows { Follows M.image M.relation (called_external types.now frame.now at input.now place to external arguments.now) memory.old result memory.new }
     ensures image { OnErr result (M.image memory.new ≡ M.image memory.old) }
@@ -57,9 +58,9 @@ fn call_external<M: Mem>(
         External::Calloc => calloc(types, frame, memory, at, to, arguments),
         External::Free => free(frame, memory, at, arguments),
         External::Putchar => putchar(types, frame, to, arguments),
-        External::Puts => unreachable!(),
+        External::Puts => puts(types, frame, memory, at, to, arguments),
         External::Getchar => lifted(getchar(types, to, input, place)),
-        External::Printf => unreachable!(),
+        External::Printf => printf(types, frame, memory, at, to, arguments),
         External::Exit => lifted(exit(frame, arguments)),
         External::Abort => Err(Fault::Trap(Trap::Abort)),
         External::Memcpy(_) => transfer(frame, memory, at, false, arguments),
@@ -87,7 +88,6 @@ pub fn execute<M: Mem>(
     op: &Op,
 ) -> Result<Effect, Fault>
     requires ready { M.ready memory.old }
-    requires covered { IsCovered op.now }
     ensures ready { M.ready memory.new }
     ensures follows { Follows M.image M.relation (meaning (record { code = code.now; function = function.now; frame = frame.now; site = at; input = input.now; place = place }) op.now) memory.old result memory.new }
     ensures image { OnErr result (M.image memory.new ≡ M.image memory.old) }
@@ -127,7 +127,12 @@ pub fn execute<M: Mem>(
         Op::Alloca { to, size } => alloca(types, memory, at, *to, *size),
         Op::Load { to, of, pointer } => load(types, frame, memory, at, *to, *of, *pointer),
         Op::Store { of, value, pointer } => store(frame, memory, at, *of, *value, *pointer),
-        Op::Address { .. } => unreachable!(),
+        Op::Address {
+            to,
+            inbounds,
+            base,
+            indices,
+        } => address(types, frame, memory, *to, *inbounds, *base, indices),
         Op::Call {
             to,
             function: callee,

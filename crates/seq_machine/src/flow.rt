@@ -16,6 +16,7 @@ use mem_image::memory::Mem;
 use mem_image::object::Pointer;
 use pv_base::list::List;
 use pv_base::want::Memory;
+use std::alloc::Global;
 
 /// Takes one of two edges.
 pub fn branch(
@@ -35,14 +36,14 @@ pub fn branch(
 
 impl Frame {
     /// The values of operands, from left to right.
-    pub fn operands(&self, from: &List<Operand>) -> Result<Vec<Value>, Fault>
+    pub fn values(&self, alloc: Global, from: &[Operand]) -> Result<Vec<Value>, Fault>
         ensures { Tells (operands self.now from.now) (sent (λ v. v.items) result) }
     {
-        let mut values = match Vec::with_capacity(from.alloc(), from.len()) {
+        let mut values = match Vec::with_capacity(alloc, from.len()) {
             Ok(values) => values,
             Err(_) => return Err(Fault::Memory),
         };
-        for operand in from.as_slice() {
+        for operand in from {
             let value = match self.operand(*operand) {
                 Ok(value) => value,
                 Err(trap) => return Err(Fault::Trap(trap)),
@@ -53,6 +54,13 @@ impl Frame {
             }
         }
         Ok(values)
+    }
+
+    /// The values of a list of operands.
+    pub fn operands(&self, from: &List<Operand>) -> Result<Vec<Value>, Fault>
+        ensures { Tells (operands self.now from.now) (sent (λ v. v.items) result) }
+    {
+        self.values(from.alloc(), from.as_slice())
     }
 }
 

@@ -3,6 +3,7 @@
 
 pub mod accesses;
 pub mod acts;
+pub mod addresses;
 mod execute;
 pub mod externals;
 pub mod flow;
@@ -10,5 +11,6 @@ pub mod machine;
 pub mod numbers;
 pub mod run;
 pub mod state;
+pub mod texts;
 pub mod values;
 pub mod words;

@@ -5,7 +5,7 @@ ghost use Rattle.seq_machine.specs.Acts.{top, acted, acted_of, control_of, funct
 ghost use Rattle.seq_machine.specs.Effects.{IsStop};
 ghost use Rattle.seq_machine.specs.Frames.{CodeOk, FramesOf, FrameOf, HasMore};
 ghost use Rattle.seq_machine.specs.Meaning.{meaning, is_inner};
-ghost use Rattle.seq_machine.specs.Step.{settled, counted, here, script, site_of, site_at, has_next, AreCovered, StateOf, StepsTo, control, stands, shown, IsCovered};
+ghost use Rattle.seq_machine.specs.Step.{settled, counted, here, script, site_of, site_at, has_next, StateOf, StepsTo, control, stands, shown};
 
 use crate::acts::act;
 use crate::execute::execute;
@@ -77,7 +77,6 @@ fn perform<M: Mem>(
     requires op { (f : _) → top frames.old ≡ Some f → op_at code.now f ≡ Some op.now }
     requires more { (f : _) → top frames.old ≡ Some f → is_inner op.now ≡ true → HasMore code.now f }
     requires site { (f : _) → top frames.old ≡ Some f → site ≡ site_at code.now f }
-    requires covered { IsCovered op.now }
     requires ready { M.ready memory.old }
     ensures ready { M.ready memory.new }
     ensures follows { (f : _) → top frames.old ≡ Some f → Follows M.image M.relation (chain (meaning (here code.now function.now f input.now input_place.old) op.now) (λ e. tell (acted code.now function.now f (control_of frames.old input_place.old output.old) e))) memory.old (sent (acted_of frames.new input_place.new output.new) result) memory.new }
@@ -112,7 +111,6 @@ fn advance<M: Mem>(
     requires code { CodeOk code.now }
     requires frames { FramesOf code.now frames.old }
     requires site { site ≡ site_of code.now (top frames.old) }
-    requires covered { AreCovered code.now }
     requires ready { M.ready memory.old }
     ensures ready { M.ready memory.new }
     ensures follows { Follows M.image M.relation (script code.now input.now (control_of frames.old input_place.old output.old)) memory.old (sent (acted_of frames.new input_place.new output.new) result) memory.new }
@@ -158,7 +156,6 @@ fn site(code: &Code, frames: &List<Frame>) -> Site
 /// Takes one step. A trap changes nothing but the count of steps, and a failed check changes nothing.
 pub fn step<M: Mem>(code: &Code, state: &mut State<M>, input: &[u8]) -> Result<Step, Memory>
     requires code { CodeOk code.now }
-    requires covered { AreCovered code.now }
     requires state { StateOf code.now (stands M.image state.old) }
     requires steps { state.old.steps + 1 < 2 ^ 64 }
     requires ready { M.ready state.old.memory }

@@ -1,7 +1,7 @@
 //! Runs of the machine on an image.
 ghost use Rattle.std.specs.Prelude.{◌≡◌, ◌+◌, ◌-◌, ◌<◌, ◌≤◌, ◌^◌, length, slice_get, IfOk, Some};
 ghost use Rattle.seq_machine.specs.Frames.{CodeOk};
-ghost use Rattle.seq_machine.specs.Step.{AreCovered, StateOf, steps_from, stands};
+ghost use Rattle.seq_machine.specs.Step.{StateOf, steps_from, stands};
 
 use crate::machine::step;
 use crate::state::{End, State, Step};
@@ -12,7 +12,6 @@ use pv_base::want::Memory;
 /// Takes steps until one ends or traps, or `n` were taken.
 pub fn run_from(code: &Code, state: &mut State<Image>, input: &[u8], n: u64) -> Result<End, Memory>
     requires code { CodeOk code.now }
-    requires covered { AreCovered code.now }
     requires state { StateOf code.now state.old }
     requires steps { state.old.steps + n < 2 ^ 64 }
     ensures kept { StateOf code.now state.new }

@@ -35,11 +35,6 @@ perform-requires-clause-more g c = λ f e inner.
 pub perform-requires-clause-site : goal.perform-requires-clause-site
 perform-requires-clause-site g c = λ f e. rw e at c.requires.site
 
-pub perform-requires-clause-covered : goal.perform-requires-clause-covered
-perform-requires-clause-covered g c =
-    let there = op_is c.args.code.now c.at-frame.result.now c.at-function.result.now c.at-block.result.now c.at-op.result.now c.at-function.ensures c.at-block.ensures c.at-op.ensures in
-    rw there at (c.requires.covered c.at-frame.result.now)
-
 pub returns-then-not-has_next-clause-follows : goal.returns-then-not-has_next-clause-follows
 returns-then-not-has_next-clause-follows g c =
     let t : top c.args.frames.now ≡ Some c.at-frame.result.now = rw c.len.ensures at c.at-frame.ensures in
