@@ -16,7 +16,7 @@ use std::fmt::Write;
 use std::process::Abort;
 use std::test::Fail;
 
-fn word(cause: &Cause) -> &'static str {
+pub fn word(cause: &Cause) -> &'static str {
     match cause {
         Cause::Name => "name",
         Cause::BadType => "bad-type",
