@@ -2,3 +2,4 @@ pub mod Kept
 pub mod Shrinking
 pub mod FlagTurns
 pub mod KeptTurns
+pub mod CaseTurns

@@ -11,4 +11,5 @@ pub mod instructions;
 pub mod memory;
 pub mod parts;
 pub mod selecting;
+pub mod switching;
 pub mod words;
