@@ -3,3 +3,5 @@ pub mod Shrinking
 pub mod FlagTurns
 pub mod KeptTurns
 pub mod CaseTurns
+pub mod AttributeTurns
+pub mod ArgumentTurns

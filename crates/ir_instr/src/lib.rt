@@ -2,6 +2,7 @@
 #![tactic(auto)]
 
 pub mod arithmetic;
+pub mod calls;
 pub mod casts;
 pub mod comparing;
 pub mod control;
