@@ -4,7 +4,8 @@ use Rattle.pv_base.specs.declared.name.Name.{Name}
 use Rattle.ir_tree.specs.declared.instruction.Operand.{Operand}
 use Rattle.ir_tree.specs.Trees.{TypeV, ConstantV}
 use Rattle.ir_text.specs.Tokens.{TokenV}
-use Rattle.ir_text.specs.Reading.{Outcome, Reader, ◌>>=◌, Meaning, token_by}
+use Rattle.ir_text.specs.Reading.{Outcome, Reader, ◌>>=◌, Meaning, token_by, wrong}
+use Rattle.ir_lex.specs.declared.token.Cause.TheVariants as causes
 use Rattle.ir_text.specs.Spelled.{one_token}
 use Rattle.ir_text.specs.Lawful.{anything}
 use Rattle.ir_text.specs.Types.{Known}
@@ -14,7 +15,9 @@ use Rattle.ir_text.specs.Tails.{tail_at, a_tail, tails_at, some_tails}
 use Rattle.ir_text.specs.Trailing.{trailing_item, comma_item}
 use Rattle.ir_text.specs.Operands.{constant_at, a_constant, operand_at, an_operand}
 use Rattle.ir_text.proofs.TailLaws.{tail_laws, tails_laws}
+use Rattle.ir_instr.specs.Parts.{target_at}
 use Rattle.ir_instr.specs.Selecting.{arm_at}
+use Rattle.ir_instr.specs.Control.{bits_of, met_before, case_value_at, case_at}
 use Rattle.ir_text.proofs.Choices.{token_laws}
 use Rattle.ir_text.proofs.Persisting.{shortens}
 use Rattle.ir_text.proofs.Agreeing.{Shortens, keeps}
@@ -116,6 +119,10 @@ module _ {A : Type 0} (begins : TokenV → Bool) (item : Reader A) (less : (n : 
   pub comma_item_less : (more : Bool) → Shortens (comma_item begins item more)
   comma_item_less more = shortens_by (comma_item begins item more) (λ n ts few. then_less n (mark_at 44 ts) _ (token_less _ n ts few) (λ x h. trailing_less more n x.1 h))
 
+-- label %name
+pub target_less : (n : ℕ) (ts : List TokenV) → length ts ≤ n → Less n (target_at ts)
+target_less n ts few = then_less n _ _ (token_less _ n ts few) (λ a la. token_less _ n a.1 (omega arith))
+
 -- ---- arms
 
 pub arm_less : (known : Known) (type : TypeV) (n : ℕ) (ts : List TokenV) → length ts ≤ n → Less n (arm_at known type ts)
@@ -125,3 +132,22 @@ arm_less known type n ts few =
     then_less n _ _ (token_less _ n b.1 (omega arith)) (λ c lc.
     then_less n _ _ (token_less _ n c.1 (omega arith)) (λ d ld.
     then_less n _ _ (token_less _ n d.1 (omega arith)) (λ e le. le)))))
+
+-- ---- cases
+
+module _ (known : Known) (type : TypeV) where
+  if_met : (n : ℕ) (t : TokenV) (x : ConstantV × List TokenV) (b : Bool) → 1 + length x.1 ≤ n → Less n (cond b (wrong t causes.Duplicate) (let p : Outcome ConstantV = Ok x in p))
+  if_met n t x true h = tt
+  if_met n t x false h = h
+
+  case_value_less : (earlier : List ℕ) (n : ℕ) (ts : List TokenV) → length ts ≤ n → Less n (case_value_at known type earlier ts)
+  unfolding case_value_at
+  case_value_less earlier n [] few = tt
+  case_value_less earlier n (t ∷ rest) few = then_less n _ _ (constant_less known (width_of type) n (t ∷ rest) few) (λ x h. if_met n t x (met_before earlier (bits_of x.0)) h)
+
+  pub case_less : (earlier : List ℕ) → Shortens (case_at known type earlier)
+  case_less earlier = shortens_by (case_at known type earlier) (λ n ts few.
+      then_less n _ _ (token_less _ n ts few) (λ a la.
+      then_less n _ _ (case_value_less earlier n a.1 (omega arith)) (λ b lb.
+      then_less n _ _ (token_less _ n b.1 (omega arith)) (λ c lc.
+      then_less n _ _ (target_less n c.1 (omega arith)) (λ d ld. ld)))))

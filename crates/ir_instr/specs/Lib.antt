@@ -16,3 +16,4 @@ pub mod Defined
 pub mod Results
 pub mod Noting
 pub mod Gathering
+pub mod Switching

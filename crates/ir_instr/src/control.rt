@@ -119,7 +119,7 @@ fn result_scalar(lexeme: &Lexeme<'_>) -> Result<Option<Scalar>, Cause>
 
 /// Reads the type of a result; `None` is `void`.
 #[tactic(auto, unfolding(ir_text::specs::Reading::token_by))]
-fn result_of_call(cursor: &mut Cursor<'_>) -> Result<Option<Scalar>, ReadEnd>
+pub fn result_type(cursor: &mut Cursor<'_>) -> Result<Option<Scalar>, ReadEnd>
     ensures { Reads result_of_type cursor.new result (token_by result_type cursor.old) }
 {
     match cursor.next() {
@@ -162,7 +162,7 @@ pub fn return_behind(
     ensures result { IfOk result (λ i. result_of i ≡ None) }
     ensures grows { Grows names.old names.new }
 {
-    let of = result_of_call(cursor)?;
+    let of = result_type(cursor)?;
     let value = returned(cursor, names, known, of)?;
     Ok(Instruction::Return { value })
 }

@@ -2,6 +2,7 @@
 #![tactic(auto)]
 
 pub mod arithmetic;
+pub mod calls;
 pub mod casts;
 pub mod comparing;
 pub mod control;
@@ -11,4 +12,5 @@ pub mod instructions;
 pub mod memory;
 pub mod parts;
 pub mod selecting;
+pub mod switching;
 pub mod words;
