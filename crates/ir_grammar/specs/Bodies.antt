@@ -37,6 +37,10 @@ new_label scope t = new_label_by scope t.kind t
 abbrev pub in_block : TokenV → Bool
 in_block t = not (is_label t || is_mark 125 t)
 
+-- the label of the entry block, which may be left out: it then takes the next number
+abbrev pub entry_label_at : Scope → Reader Name
+entry_label_at scope = choose is_label (token_by (new_label scope)) (gives (Numbered scope.next))
+
 module _ (known : Known) where
   -- the next instruction
   abbrev pub step_at : Scope → Reader (Instruction Name TypeV ConstantV)
@@ -55,10 +59,6 @@ module _ (known : Known) where
   block_at scope ts = do
     label ← token_by (new_label scope) ts
     block_behind scope label.0 label.1
-
-  -- the label of the entry block, which may be left out: it then takes the next number
-  abbrev pub entry_label_at : Scope → Reader Name
-  entry_label_at scope = choose is_label (token_by (new_label scope)) (gives (Numbered scope.next))
 
   -- the entry block
   abbrev pub entry_at : Scope → Reader (Block Name TypeV ConstantV)

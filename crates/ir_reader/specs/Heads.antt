@@ -9,6 +9,7 @@ use Rattle.ir_tree.specs.Trees.{TypeV}
 use Rattle.ir_text.specs.Reading.{Outcome, ◌>>=◌}
 use Rattle.ir_grammar.specs.Headers as grammar
 use Rattle.ir_reader.specs.declared.params.Params.{Params}
+use Rattle.ir_reader.specs.declared.params.Header.{Header}
 
 -- parameters, with names and types in place of their numbers
 abbrev pub shown_params : Table → Params → grammar.Params
@@ -25,3 +26,7 @@ behind_params front read = read >>= λ x. Ok (with_params front x.0, x.1)
 -- the name of a parameter, if it has one, is of the table
 abbrev pub ParamWithin : Table → Param ℕ ℕ → Type 0
 ParamWithin table p = IfSome p.name (λ k. k < length table.names)
+
+-- a head, with names and types in place of their numbers
+abbrev pub shown_header : Table → Header → grammar.Header
+shown_header table h = record { result = type_at table h.result; name = name_at table h.name; params = shown_params table h.params }

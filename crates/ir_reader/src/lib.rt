@@ -5,3 +5,4 @@ pub mod names;
 pub mod scope;
 pub mod skipped;
 pub mod params;
+pub mod body;

@@ -1,28 +1,29 @@
 //! The parameters of functions.
 
-ghost use Rattle.std.specs.Prelude.{◌≡◌, ◌<◌, length, map, fold, option_map, IfOk, OnOk, IfSome};
+ghost use Rattle.std.specs.Prelude.{◌≡◌, ◌<◌, [], length, map, fold, option_map, IfOk, OnOk, IfSome};
 ghost use Rattle.ir_tree.specs.Table.{Table};
 ghost use Rattle.ir_tree.specs.Naming.{Grows, name_at};
 ghost use Rattle.ir_tree.specs.Shown.{shown_param};
 ghost use Rattle.ir_text.specs.Reading.{Reads, next_is, token_by};
 ghost use Rattle.ir_text.specs.Tokens.{is_points};
-ghost use Rattle.ir_instr.specs.Defined.{AreNames};
+ghost use Rattle.ir_instr.specs.Defined.{AreNames, IsNew};
 ghost use Rattle.ir_grammar.specs.Headers as spec;
 ghost use Rattle.ir_grammar.specs.Scopes.{after_param};
 ghost use Rattle.ir_reader.specs.Scoping.{scope_at};
-ghost use Rattle.ir_reader.specs.Heads.{shown_params, ParamWithin};
+ghost use Rattle.ir_reader.specs.Heads.{shown_params, shown_header, ParamWithin};
 
-use crate::names::defined_name;
+use crate::names::{defined_name, new_global};
 use crate::scope::Scope;
+use ir_instr::defined::Defined;
 use ir_lex::token::{Cause, TokenKind};
 use ir_text::cursor::{Cursor, Lexeme};
 use ir_text::fault::{Fault, ReadEnd};
-use ir_text::leaves::{bad, eat};
+use ir_text::leaves::{bad, eat, mark, sees};
 use ir_text::operands::sees_local;
 use ir_text::passed::{Stops, words};
-use ir_text::types::register_type;
+use ir_text::types::{register_type, result_type};
 use ir_tree::items::Param;
-use ir_tree::nodes::NameId;
+use ir_tree::nodes::{NameId, TypeId};
 use ir_tree::table::Names;
 use pv_base::bytes::Bytes;
 use pv_base::list::List;
@@ -194,4 +195,71 @@ fn entries(
         }
     }
     Err(ReadEnd::Bad(Fault::Ended))
+}
+
+/// Reads parameters up to the closing parenthesis.
+fn read_params(
+    cursor: &mut Cursor<'_>,
+    names: &mut Names,
+    declared: bool,
+    scope: &mut Scope,
+) -> Result<Params, ReadEnd>
+    requires { scope.old ≡ record { next = 0; defined = [] } }
+    ensures reads { (later : Table) → Grows names.new later → Reads (shown_params later) cursor.new result (spec.params_at declared cursor.old) }
+    ensures defines { IfOk result (λ p. (later : Table) → Grows names.new later → scope_at later scope.new ≡ spec.scope_of (shown_params later p)) }
+    ensures names { OnOk result (AreNames names.new scope.new.defined) }
+    ensures grows { Grows names.old names.new }
+{
+    if sees(cursor, b')') {
+        mark(cursor, b')')?;
+        return Ok(Params {
+            params: List::new(cursor.alloc()),
+            variadic: false,
+        });
+    }
+    let params = entries(cursor, names, declared, scope)?;
+    mark(cursor, b')')?;
+    Ok(params)
+}
+
+/// The head of a function, and what it defines.
+#[derive(Drop)]
+pub struct Header {
+    pub result: TypeId,
+    pub name: NameId,
+    pub params: Params,
+    pub scope: Scope,
+}
+
+/// Reads `WORDS T @name(PARAMS)`, where these names of globals and functions were given before.
+#[tactic(auto, using(ir_text::proofs::Later::later, ir_instr::proofs::Kept::names_kept))]
+pub fn read_header(
+    cursor: &mut Cursor<'_>,
+    names: &mut Names,
+    declared: bool,
+    values: &Defined,
+) -> Result<Header, ReadEnd>
+    requires { AreNames names.old values.now }
+    ensures reads { (later : Table) → Grows names.new later → Reads (shown_header later) cursor.new result (spec.header_at declared (map (name_at later) values.now) cursor.old) }
+    ensures defines { IfOk result (λ h. (later : Table) → Grows names.new later → scope_at later h.scope ≡ spec.scope_of (shown_params later h.params)) }
+    ensures names { IfOk result (λ h. AreNames names.new h.scope.defined) }
+    ensures new { IfOk result (λ h. IsNew names.new values.now h.name) }
+    ensures grows { Grows names.old names.new }
+{
+    let all = Stops {
+        words: &[],
+        types: true,
+    };
+    words(cursor, &all)?;
+    let result = result_type(cursor, names)?;
+    let name = new_global(cursor, names, values)?;
+    mark(cursor, b'(')?;
+    let mut scope = Scope::new(cursor.alloc());
+    let params = read_params(cursor, names, declared, &mut scope)?;
+    Ok(Header {
+        result,
+        name,
+        params,
+        scope,
+    })
 }

@@ -1,0 +1,56 @@
+use Rattle.std.proofs.Common.{◌≡◌, ◌-◌, ◌+◌, suc, length, map, List, [], ◌∷◌, ◌++◌, arith, rules, refl, sym, ◌∙◌, ap, subst, true, false}
+use Rattle.std.specs.Prelude.{fold}
+use Rattle.std.proofs.lemmas.Result.{err_from_is_err_and}
+use Rattle.std.proofs.lemmas.List.{map_push}
+use Rattle.std.proofs.lemmas.List.Sums.{fold-append}
+use Rattle.ir_tree.specs.Shown.{shown}
+use Rattle.ir_tree.proofs.Showing.{grows_then}
+use Rattle.ir_text.specs.Named.{known_of}
+use Rattle.ir_instr.proofs.Kept.{types_kept}
+use Rattle.ir_grammar.specs.Scopes.{after_instruction}
+use Rattle.ir_grammar.specs.Bodies.{in_block, step_at}
+use Rattle.ir_reader.specs.Scoping.{scope_at}
+use Rattle.ir_reader.proofs.Turns.{starts, sub_zero, goes_on, fails, ends_there, runs_out}
+use Rattle.ir_reader.proofs.body.instructions.Goals as goal
+
+pub loop-turn-init : goal.loop-turn-init
+loop-turn-init c = record {
+  so_far = λ later grows. rw (c.new-found.ensures, sub_zero (length c.args.cursor.now)) (starts in_block (step_at (known_of later c.args.known.now)) after_instruction (scope_at later c.args.scope.now) c.args.cursor.now);
+  defines = λ later grows. rw c.new-found.ensures refl;
+  names = c.requires.names;
+  types = c.requires.types;
+  laid = c.requires.laid;
+  grows = search rules;
+}
+
+pub returns-then-not-sees_instruction-clause-reads : goal.returns-then-not-sees_instruction-clause-reads
+returns-then-not-sees_instruction-clause-reads c = λ later grows.
+    ends_there in_block (step_at (known_of later c.args.known.now)) after_instruction _ (scope_at later c.loop-turn.scope) c.loop-turn.cursor (map (shown later) c.loop-turn.found) _ (sym c.sees_instruction.ensures ∙ c.if-not-sees_instruction.true) (c.loop-turn.invariant.so_far later grows)
+
+pub returns-in_err-read-clause-reads : goal.returns-in_err-read-clause-reads
+returns-in_err-read-clause-reads c = λ later grows.
+    let turn : length c.args.cursor.now - c.loop-turn.turn ≡ suc (length c.args.cursor.now - (c.loop-turn.turn + 1)) = omega arith in
+    let p = err_from_is_err_and c.from_residual.result c.from_residual.ensures.1 in
+    let so_far = c.loop-turn.invariant.so_far later (grows_then _ _ _ c.in_err-read.ensures.grows grows) in
+    rw (p.1, p.2) (fails in_block (step_at (known_of later c.args.known.now)) after_instruction c.in_err-read.field-0.0 _ _ (scope_at later c.loop-turn.scope) c.loop-turn.cursor (map (shown later) c.loop-turn.found) _ turn (sym c.sees_instruction.ensures ∙ c.if-not-sees_instruction.false) (c.in_err-read.ensures.reads later grows) so_far)
+
+pub loop-turn-preserved : goal.loop-turn-preserved
+loop-turn-preserved c = record {
+  so_far = λ later grows.
+      let turn : length c.args.cursor.now - c.loop-turn.turn ≡ suc (length c.args.cursor.now - (c.loop-turn.turn + 1)) = omega arith in
+      let so_far = c.loop-turn.invariant.so_far later (grows_then _ _ _ c.in_ok-read.ensures.grows grows) in
+      rw (c.in_ok-push.ensures.ok, map_push (shown later) c.loop-turn.found c.in_ok-read.read, c.in_ok-read.ensures.defines later grows)
+        (goes_on in_block (step_at (known_of later c.args.known.now)) after_instruction _ _ (scope_at later c.loop-turn.scope) c.loop-turn.cursor (map (shown later) c.loop-turn.found) (shown later c.in_ok-read.read) c.noted_instruction.new.cursor _ turn (sym c.sees_instruction.ensures ∙ c.if-not-sees_instruction.false) (c.in_ok-read.ensures.reads later grows) so_far);
+  defines = λ later grows.
+      let before = c.loop-turn.invariant.defines later (grows_then _ _ _ c.in_ok-read.ensures.grows grows) in
+      rw (c.in_ok-push.ensures.ok, map_push (shown later) c.loop-turn.found c.in_ok-read.read, fold-append after_instruction (scope_at later c.args.scope.now) (map (shown later) c.loop-turn.found) (shown later c.in_ok-read.read ∷ []), ← before)
+        (c.in_ok-read.ensures.defines later grows);
+  names = c.in_ok-read.ensures.names;
+  types = types_kept _ _ c.args.known.now c.loop-turn.invariant.types c.in_ok-read.ensures.grows;
+  laid = c.in_ok-read.ensures.laid;
+  grows = grows_then _ _ _ c.loop-turn.invariant.grows c.in_ok-read.ensures.grows;
+}
+
+pub returns-clause-reads : goal.returns-clause-reads
+returns-clause-reads c = λ later grows.
+    runs_out in_block (step_at (known_of later c.args.known.now)) after_instruction _ (scope_at later c.loop-turn.scope) c.loop-turn.cursor (map (shown later) c.loop-turn.found) _ (omega arith) (c.loop-turn.invariant.so_far later grows)
