@@ -11,7 +11,7 @@ use Rattle.clap.specs.Faults.{level_fault, built_fault}
 use Rattle.clap.proofs.OnLiterals.{clap_on_literals}
 use Rattle.command_words.specs.Texts.{are_texts}
 use Rattle.command_words.specs.CommandLine.{whole_app, whole_literal}
-use Rattle.command_words.specs.Plain.{Item, words_of, pairs_of, value_in, has_name, Fine, AllNamed}
+use Rattle.command_words.specs.Plain.{Item, words_of, pairs_of, value_in, has_name, ArePlain, AllNamed}
 use Rattle.command_words.specs.PlainLines.{IsPlainLine, ReadsPlain, text_in, run_names, run_options, check_names}
 use Rattle.command_words.specs.Requests.{Asked, are_words, asked_of, asked_of_texts, asked_by, asked_in, asked_run, run_of, check_of, check, usage, usage_words, faults, matches}
 use Rattle.command_words.proofs.PlainWalk.{IsPlainShape, IsOption, IsPositional, lacks, rows_for, plain_rows, plain_faults, first_value_in, given_name, places_named}
@@ -35,7 +35,7 @@ asked_after : (words : List Text) (name : Text) (rows : List Row) → faults wor
 asked_after words name rows f m = rw (f, m) refl
 
 plain_command : (program name : Text) (s : Shape) (options names : List Text) (items : List Item)
-    → Enters whole_built name s → IsPlainShape s options names → Fine options names items [] → lacks s (pairs_of names items) ≡ false
+    → Enters whole_built name s → IsPlainShape s options names → ArePlain options names items [] → lacks s (pairs_of names items) ≡ false
     → asked_of_texts (program ∷ name ∷ words_of items) ≡ asked_in name (rows_for (pairs_of names items))
 plain_command program name s options names items enters plain fine given =
     asked_after _ _ _ (faults_after program (name ∷ words_of items) ∙ enters_faults whole_built name s (words_of items) enters (plain_faults s options names items plain fine given))

@@ -16,7 +16,7 @@ use Rattle.clap.specs.declared.builder.ArgAction.TheVariants.{Set}
 use Rattle.clap.specs.declared.parser.matches.ValueSource.TheVariants.{CommandLine}
 use Rattle.clap.specs.declared.builder.value_parser.Reading.TheVariants.{AsWritten}
 use Rattle.clap.specs.declared.builder.value_parser.ValueParser.TheVariants as vp
-use Rattle.command_words.specs.Plain.{is_plain_text, Item, positional, spaced, joined, words_of, pairs_of, has_name, value_in, Among, Fine, AllNamed}
+use Rattle.command_words.specs.Plain.{is_plain_text, Item, positional, spaced, joined, words_of, pairs_of, has_name, value_in, Among, ArePlain, AllNamed}
 
 -- how many names help has for the value: an option has one
 abbrev pub shown_names : Option Text → ℕ
@@ -234,7 +234,7 @@ same_pairs s w words a b e ends = subst (λ (x : List (Text × Text)). Ends s w 
 
 pub plain_walk : (s : Shape) (options : List Text) → AllOptions s.rules options → (items : List Item) (names : List Text) (n : ℕ) → AllPositional s.rules n names
     → (rows : List Row) (p : Option (Text × List Text)) (pairs : List (Text × Text)) → Settles s.rules s.args_override_self rows p pairs
-    → Fine options names items pairs → Ends s (at rows p n) (words_of items) (pairs ++ pairs_of names items)
+    → ArePlain options names items pairs → Ends s (at rows p n) (words_of items) (pairs ++ pairs_of names items)
 unfolding walk_fault
 plain_walk s options opts [] [] n all rows p pairs settles fine = record {
   held = rows;
@@ -332,13 +332,13 @@ pub record IsPlainShape (s : Shape) (options names : List Text) : Type 0 where
 abbrev pub lacks : Shape → List (Text × Text) → Bool
 lacks s pairs = list_any (λ a. a.required && not (is_given a.id (rows_for pairs))) s.rules
 
-pub plain_rows : (s : Shape) (options names : List Text) (items : List Item) → IsPlainShape s options names → Fine options names items []
+pub plain_rows : (s : Shape) (options names : List Text) (items : List Item) → IsPlainShape s options names → ArePlain options names items []
     → rows_after s.rules [] (words_of items) ≡ rows_for (pairs_of names items)
 plain_rows s options names items is fine =
     let ends = plain_walk s options is.opts items names 1 is.places [] None [] (settles_none _ _ []) fine in
     rw (ends.end, ends.settles.rows) (defaults_stay s.rules _ is.defaults)
 
-pub plain_faults : (s : Shape) (options names : List Text) (items : List Item) → IsPlainShape s options names → Fine options names items []
+pub plain_faults : (s : Shape) (options names : List Text) (items : List Item) → IsPlainShape s options names → ArePlain options names items []
     → lacks s (pairs_of names items) ≡ false → level_fault s [] nothing_held (words_of items) false [] ≡ []
 plain_faults s options names items is fine given =
     let ends = plain_walk s options is.opts items names 1 is.places [] None [] (settles_none _ _ []) fine in
@@ -358,7 +358,7 @@ named_more : (names : List Text) (q : Text × Text) (pairs : List (Text × Text)
 named_more [] q pairs all = tt
 named_more (name ∷ names) q pairs all = (or_more (bytes_eq q.0 name) (has_name name pairs) all.0, named_more names q pairs all.1)
 
-pub places_named : (options : List Text) (items : List Item) (names : List Text) (seen : List (Text × Text)) → Fine options names items seen
+pub places_named : (options : List Text) (items : List Item) (names : List Text) (seen : List (Text × Text)) → ArePlain options names items seen
     → AllNamed names (pairs_of names items)
 places_named options [] [] seen fine = tt
 places_named options [] (name ∷ names) seen fine = absurd fine

@@ -3,7 +3,7 @@ use Rattle.std.specs.Prelude.{◌≡◌, true, List, [], ◌∷◌, Option, code
 use Rattle.std.specs.Borrow.{Bor}
 use Rattle.clap.specs.Words.{Text}
 use Rattle.command_words.specs.Texts.{are_texts}
-use Rattle.command_words.specs.Plain.{Item, words_of, pairs_of, value_in, Fine, AllNamed}
+use Rattle.command_words.specs.Plain.{Item, words_of, pairs_of, value_in, ArePlain, AllNamed}
 use Rattle.command_words.specs.Requests.{Asked, asked_run, check}
 
 -- the words are a program's name, this command, and then items that are plain for its positional names and its options, of
@@ -12,7 +12,7 @@ pub record IsPlainLine (command : Text) (names options needed : List Text) (item
   pub program : Text
   pub is : words ≡ program ∷ command ∷ words_of items
   pub texts : are_texts words ≡ true
-  pub fine : Fine options names items []
+  pub fine : ArePlain options names items []
   pub given : AllNamed needed (pairs_of names items)
 
 -- the text that the items give to a name

@@ -5,3 +5,5 @@ mod bytes;
 mod put;
 pub mod refusals;
 pub mod report;
+#[cfg(test)]
+mod tests;

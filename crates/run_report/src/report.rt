@@ -54,14 +54,21 @@ fn put_globals(to: &mut Bytes, tree: &Module, globals: &[GlobalBytes]) -> Result
     Ok(())
 }
 
-/// The report of a run of the module: the line of its end, and then one for each global of the outcome. It takes time and
-/// memory linear in the globals' bytes.
+/// Appends the report of a run of the module: the line of its end, and then one for each global of the outcome. It takes
+/// time linear in the globals' bytes.
 #[tactic(auto, unfolding(crate::specs::Report::report_text))]
+pub fn put_report(to: &mut Bytes, tree: &Module, outcome: &Outcome) -> Result<(), Memory>
+    ensures { OnOk result (to.new ≡ to.old ++ report_text tree.now outcome.now) }
+{
+    put_end(to, tree, outcome.end, outcome.steps)?;
+    put_globals(to, tree, outcome.globals.as_slice())
+}
+
+/// The report of a run of the module.
 pub fn report_text(alloc: Global, tree: &Module, outcome: &Outcome) -> Result<Bytes, Memory>
     ensures { IfOk result (λ text. text ≡ report_text tree.now outcome.now) }
 {
     let mut text = Bytes::new(alloc);
-    put_end(&mut text, tree, outcome.end, outcome.steps)?;
-    put_globals(&mut text, tree, outcome.globals.as_slice())?;
+    put_report(&mut text, tree, outcome)?;
     Ok(text)
 }
