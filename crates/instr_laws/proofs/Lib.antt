@@ -9,3 +9,8 @@ pub mod Trails
 pub mod MemoryLaws
 pub mod PhiLaws
 pub mod AddressLaws
+pub mod Restricted
+pub mod Values
+pub mod Numbers
+pub mod Attributes
+pub mod CallLaws

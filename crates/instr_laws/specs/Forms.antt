@@ -1,5 +1,5 @@
 -- How the forms of instructions are spelled, each behind its word.
-use Rattle.std.specs.Prelude.{Bool, List, [], Option, codes}
+use Rattle.std.specs.Prelude.{Bool, true, false, List, [], Option, codes}
 use Rattle.std.proofs.Common.{◌⊎◌}
 use Rattle.pv_base.specs.declared.name.Name.{Name}
 use Rattle.int_num.specs.declared.ops.BinOp.{BinOp}
@@ -9,24 +9,28 @@ use Rattle.int_num.specs.declared.ops.Pred.{Pred}
 use Rattle.ir_tree.specs.declared.instruction.Operand.{Operand}
 use Rattle.ir_tree.specs.declared.instruction.Argument.{Argument}
 use Rattle.ir_tree.specs.declared.instruction.Arm.{Arm}
+use Rattle.ir_tree.specs.declared.instruction.Callee.{Callee}
 use Rattle.ir_tree.specs.declared.instruction.Case.{Case}
 use Rattle.ir_tree.specs.declared.instruction.Instruction.{Instruction}
 use Rattle.ir_tree.specs.declared.instruction.Instruction.TheVariants as instruction
 use Rattle.ir_tree.specs.Trees.{TypeV, IntV, ConstantV}
 use Rattle.ir_text.specs.Tokens.{among}
 use Rattle.ir_text.specs.Operands.{an_operand}
+use Rattle.ir_text.specs.Lists.{closed_list}
+use Rattle.ir_text.specs.Passed.{some_words, stops}
 use Rattle.ir_text.specs.Spelled.{Spelling, one_token}
 use Rattle.ir_text.specs.Repeated.{each_under}
 use Rattle.ir_text.specs.Types.{Known, register_type}
 use Rattle.ir_text.specs.Tails.{some_tails}
 use Rattle.ir_text.specs.TypeSpelled.{◌▸◌, a_mark, a_word}
-use Rattle.ir_instr.specs.Words.{worded, predicates}
+use Rattle.ir_instr.specs.Words.{worded, predicates, opcodes}
 use Rattle.ir_instr.specs.Parts.{fixed_type, integer_type, stored_type}
 use Rattle.ir_instr.specs.Flags.{flags_for, cast_flags_for}
 use Rattle.ir_instr.specs.Comparing.{comparing_words}
 use Rattle.ir_instr.specs.Addresses.{address_words}
+use Rattle.ir_instr.specs.Calls.{called, answer_type}
 use Rattle.ir_instr.specs.Control.{with_case}
-use Rattle.ir_instr.specs.InstructionSpelled.{Says, some_arms, some_indices, InMemory, a_count, some_flags, passed_words, a_target, a_pointer, a_returned, ACase}
+use Rattle.ir_instr.specs.InstructionSpelled.{a_function_type, an_argument, Says, some_arms, some_indices, InMemory, a_count, some_flags, passed_words, a_target, a_pointer, a_returned, ACase}
 use Rattle.instr_laws.specs.Made.{Made}
 
 -- an operand, and an instruction
@@ -114,3 +118,10 @@ module _ (known : Known) where
   an_address to =
       Made (λ (p : Bool × (TypeV × (Value × List (Argument Name TypeV ConstantV)))). instruction.Address to p.0 p.1.0 p.1.1.0 p.1.1.1)
       (λ p. Says address_words (λ written. among written (codes "inbounds")) p.0 ▸ InMemory known p.1.0 ▸ a_mark 44 ▸ a_pointer known p.1.1.0 ▸ some_indices known p.1.0 p.1.1.1 ▸ some_tails tt)
+
+  -- WORDS T @f(T A, ..) WORDS, with a written function type behind T, and what is passed over behind it
+  abbrev pub a_call_form : Option Name → Form
+  a_call_form to =
+      Made (λ (p : TypeV × (Bool × (Callee Name × List (Argument Name TypeV ConstantV)))). instruction.Call to p.0 p.1.0 p.1.1.0 p.1.1.1)
+      (λ p. some_words (stops [] true) tt ▸ one_token (answer_type to) p.0 ▸ a_function_type p.1.0 ▸ one_token (called p.1.0) p.1.1.0
+      ▸ a_mark 40 ▸ closed_list 41 (an_argument known) p.1.1.1 ▸ some_words (stops opcodes false) tt)

@@ -5,7 +5,7 @@
 //! nothing behind it helps.
 #![tactic(auto)]
 
-ghost use Rattle.std.specs.Prelude.{ℕ};
+ghost use Rattle.std.specs.Prelude.{ℕ, Option};
 ghost use Rattle.pv_base.specs.declared.name.Name.{Name};
 ghost use Rattle.int_num.specs.declared.ops.BinOp.{BinOp};
 ghost use Rattle.int_num.specs.declared.ops.CastOp.{CastOp};
@@ -18,8 +18,11 @@ ghost use Rattle.ir_instr.specs.Comparing.{compare_at};
 ghost use Rattle.ir_instr.specs.Selecting.{select_at, phi_at};
 ghost use Rattle.ir_instr.specs.Memory.{alloca_at, load_at, store_at};
 ghost use Rattle.ir_instr.specs.Addresses.{address_at};
+ghost use Rattle.ir_instr.specs.Calls.{argument_at, call_at};
 ghost use Rattle.ir_instr.specs.Control.{return_at, jump_or_branch_at, switch_at};
-ghost use Rattle.instr_laws.specs.Forms.{a_binary, a_cast, a_freeze, a_compare, a_select, a_load, a_store, a_return, a_jump_or_branch, a_switch, a_phi, an_alloca, an_address};
+ghost use Rattle.ir_instr.specs.InstructionSpelled.{an_argument};
+ghost use Rattle.instr_laws.specs.Behind.{BehindArgument, BehindCall};
+ghost use Rattle.instr_laws.specs.Forms.{a_call_form, a_binary, a_cast, a_freeze, a_compare, a_select, a_load, a_store, a_return, a_jump_or_branch, a_switch, a_phi, an_alloca, an_address};
 
 /// Operations on two integers.
 pub fn binaries_are_read()
@@ -84,4 +87,14 @@ pub fn allocas_are_read()
 /// `getelementptr`, with what is passed over behind its indices.
 pub fn addresses_are_read()
     ensures { (n : ℕ) (known : Known) (to : Name) → Lawful n (Behind (is_mark 44) anything) (address_at known to) (an_address known to) }
+{}
+
+/// An argument of a call, with attributes between its type and its value, before the `,` or `)` that ends it.
+pub fn call_arguments_are_read()
+    ensures { (n : ℕ) (known : Known) → Lawful n BehindArgument (argument_at known) (an_argument known) }
+{}
+
+/// `call`, without what is passed over behind it.
+pub fn calls_are_read()
+    ensures { (n : ℕ) (known : Known) (to : Option Name) → Lawful n BehindCall (call_at known to) (a_call_form known to) }
 {}
