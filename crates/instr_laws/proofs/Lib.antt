@@ -14,3 +14,8 @@ pub mod Values
 pub mod Numbers
 pub mod Attributes
 pub mod CallLaws
+pub mod Blaming
+pub mod Opcodes
+pub mod DispatchLaws
+pub mod InstructionLaws
+pub mod OneLaws

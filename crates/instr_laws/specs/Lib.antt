@@ -1,3 +1,4 @@
 pub mod Made
 pub mod Behind
 pub mod Forms
+pub mod Laws

@@ -5,7 +5,7 @@
 //! nothing behind it helps.
 #![tactic(auto)]
 
-ghost use Rattle.std.specs.Prelude.{ℕ, Option};
+ghost use Rattle.std.specs.Prelude.{ℕ, List, Option};
 ghost use Rattle.pv_base.specs.declared.name.Name.{Name};
 ghost use Rattle.int_num.specs.declared.ops.BinOp.{BinOp};
 ghost use Rattle.int_num.specs.declared.ops.CastOp.{CastOp};
@@ -20,9 +20,11 @@ ghost use Rattle.ir_instr.specs.Memory.{alloca_at, load_at, store_at};
 ghost use Rattle.ir_instr.specs.Addresses.{address_at};
 ghost use Rattle.ir_instr.specs.Calls.{argument_at, call_at};
 ghost use Rattle.ir_instr.specs.Control.{return_at, jump_or_branch_at, switch_at};
-ghost use Rattle.ir_instr.specs.InstructionSpelled.{an_argument};
-ghost use Rattle.instr_laws.specs.Behind.{BehindArgument, BehindCall};
+ghost use Rattle.ir_instr.specs.Instructions.{instruction_at};
+ghost use Rattle.ir_instr.specs.InstructionSpelled.{an_argument, an_instruction};
+ghost use Rattle.instr_laws.specs.Behind.{BehindArgument, BehindCall, BehindInstruction};
 ghost use Rattle.instr_laws.specs.Forms.{a_call_form, a_binary, a_cast, a_freeze, a_compare, a_select, a_load, a_store, a_return, a_jump_or_branch, a_switch, a_phi, an_alloca, an_address};
+ghost use Rattle.instr_laws.specs.Laws.{OneInstruction, OneEnd};
 
 /// Operations on two integers.
 pub fn binaries_are_read()
@@ -97,4 +99,20 @@ pub fn call_arguments_are_read()
 /// `call`, without what is passed over behind it.
 pub fn calls_are_read()
     ensures { (n : ℕ) (known : Known) (to : Option Name) → Lawful n BehindCall (call_at known to) (a_call_form known to) }
+{}
+
+/// An instruction of a function whose counter stands at a number and that has defined some names, whatever its form.
+pub fn instructions_are_read()
+    ensures { (n : ℕ) (known : Known) (next : ℕ) (defined : List Name)
+        → Lawful n BehindInstruction (instruction_at known next defined) (an_instruction known next defined) }
+{}
+
+/// The same tokens spell at most one instruction.
+pub fn one_instruction()
+    ensures { OneInstruction }
+{}
+
+/// In a row of tokens an instruction ends at one place only.
+pub fn one_end()
+    ensures { OneEnd }
 {}
