@@ -26,7 +26,7 @@ use Rattle.std.specs.Prelude.{MatchOption, IfSome, IfErr, if◌then◌else◌}
 use Rattle.std.proofs.lemmas.List.{take-append-le, length-take-le, take_all}
 use Rattle.std.proofs.lemmas.Bool.Decides.{nat_tests}
 use Rattle.seq_machine.specs.Flow.{may_stand, Enters, IsResult, receives}
-use Rattle.seq_machine.specs.Acts.{blocks_of, types_of, ops_of, phis_of, function_at, block_at, op_at, top, with_top, next, put, put_if, put_result, result_register, resumed, resumed_top, without_top, entered, keep, on_top, control_of, acted_of, Stands}
+use Rattle.seq_machine.specs.Acts.{blocks_of, types_of, ops_of, phis_of, function_at, block_at, op_at, top, with_top, bare, next, put, put_if, put_result, result_register, resumed, resumed_top, without_top, entered, keep, on_top, control_of, acted_of, Stands}
 use Rattle.seq_machine.specs.Frames.{CodeOk, FrameOf, HasMore, FramesOf, Awaits, Calls, result_of, HoldsResult}
 use Rattle.seq_machine.proofs.FrameLists.{frames_set, frames_push, are_set, same_some, get_take, set_same}
 
@@ -44,6 +44,11 @@ frame_on code f registers h more typed = record { function = h.function; block =
 
 pub kept_next : (code : Code) (frames : List Frame) (f : Frame) → FramesOf code frames → top frames ≡ Some f → HasMore code f → FramesOf code (with_top frames (next f))
 kept_next code frames f h t more = let ok : FrameOf code f = h.each _ f t in frames_set code frames f (next f) h t (frame_on code f f.registers ok more ok.registers) refl
+
+pub kept_bare : (code : Code) (frames : List Frame) (f : Frame) → FramesOf code frames → top frames ≡ Some f → FramesOf code (with_top frames (bare f))
+kept_bare code frames f h t =
+    let ok : FrameOf code f = h.each _ f t in
+    frames_set code frames f (bare f) h t (record { function = ok.function; block = ok.block; phis = ok.phis; place = ok.place; registers = ok.registers }) refl
 
 pub kept_put : (code : Code) (frames : List Frame) (f : Frame) (to : ℕ) (v : Value) → FramesOf code frames → top frames ≡ Some f → HasMore code f → Holds (types_of (function_at code f)) to v → FramesOf code (with_top frames (put f to v))
 kept_put code frames f to v h t more holds =

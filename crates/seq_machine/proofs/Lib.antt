@@ -4,6 +4,9 @@ pub mod TextLoop
 pub mod Printing
 pub mod TextLists
 pub mod Addressing
+pub mod Slots
+pub mod Quiet
+pub mod Owns
 pub mod WordLoops
 pub mod Follow
 pub mod Operands

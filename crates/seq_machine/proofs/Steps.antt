@@ -1,6 +1,6 @@
 -- A step, from its parts.
 use Rattle.std.proofs.Common.{◌≡◌, ℕ, zero, suc, add-one, arith, ◌+◌, ◌<◌, List, Option, Some, None, Result, Ok, Err, true, false, Bool, slice_get, not, refl, sym, ◌∙◌, ap, subst, length, OnErr}
-use Rattle.std.specs.Prelude.{IfErr, nat_lt, ◌||◌}
+use Rattle.std.specs.Prelude.{IfOk, IfErr, nat_lt, ◌||◌}
 use Rattle.std.proofs.lemmas.Bool.{ltb-true}
 use Rattle.ir_code.specs.declared.code.BlockCode.{BlockCode}
 use Rattle.mem_image.specs.declared.fault.Trap.TheVariants.{Unreachable}
@@ -14,7 +14,7 @@ use Rattle.ir_code.specs.declared.code.Code.{Code}
 use Rattle.mem_image.specs.declared.fault.Trap.{Trap as TrapWord}
 use Rattle.mem_image.specs.declared.fault.Fault.{Fault}
 use Rattle.mem_image.specs.declared.fault.Fault.TheVariants.{Trap, Check, Memory}
-use Rattle.mem_image.specs.Picture.{Picture}
+use Rattle.mem_image.specs.Picture.{Picture, IsPicture}
 use Rattle.mem_image.specs.Calls.{Call, Reply, does, Fits, ImageAnswers}
 use Rattle.mem_image.specs.declared.fault.CheckFault.{CheckFault}
 use Rattle.seq_machine.specs.declared.state.Frame.{Frame}
@@ -25,9 +25,10 @@ use Rattle.seq_machine.specs.Script.{Script, Stops, Follows, Tells, tell, chain,
 use Rattle.seq_machine.specs.Values.{Sets}
 use Rattle.seq_machine.specs.Acts.{Control, Acted, acted, acted_of, top, function_at, op_at, block_at}
 use Rattle.seq_machine.specs.Effects.{IsStop}
-use Rattle.seq_machine.specs.Frames.{HasMore, EffectOf}
+use Rattle.seq_machine.specs.Frames.{HasMore, EffectOf, FramesOf}
+use Rattle.seq_machine.specs.Owned.{OwnOf}
 use Rattle.seq_machine.specs.Meaning.{Here, meaning, is_inner}
-use Rattle.seq_machine.specs.Step.{EffectFor, here, script_in, site_at, site_of, script, has_next, finish, step, stands, shown, settled, counted, StepsTo, control, steps_from}
+use Rattle.seq_machine.specs.Step.{EffectFor, here, script_in, site_at, site_of, script, has_next, finish, step, stands, shown, settled, counted, StepsTo, StateOf, control, steps_from}
 use Rattle.seq_machine.specs.declared.state.Step.TheVariants.{Next, Ended, Failed, Trap as Trapped}
 use Rattle.seq_machine.specs.declared.state.End.TheVariants.{Ended as RunEnded, Trapped as RunTrapped}
 use Rattle.seq_machine.proofs.Follow.{follows_chain, follows_cut, follows_outcome, no_check}
@@ -35,7 +36,7 @@ use Rattle.seq_machine.proofs.Follow.{follows_chain, follows_cut, follows_outcom
 sets_of : (code : Code) (g : FunctionCode) (f : Frame) (e : Effect) → function_at code f ≡ Some g → HasMore code f → Sets g.registers e → EffectOf code f e
 sets_of code g f effect.Next is more h = more
 sets_of code g f (effect.Give to v) is more h = (more, rw is h)
-sets_of code g f (effect.Keep to name) is more h = (more, rw is h)
+sets_of code g f (effect.Keep to name) is more h = elim h [ ]
 sets_of code g f (effect.Edge e) is more h = tt
 sets_of code g f (effect.Enter k registers) is more h = elim h [ ]
 sets_of code g f (effect.Back v) is more h = elim h [ ]
@@ -57,6 +58,9 @@ effect_of code g f (op.Branch c a b) (effect.Edge e) is at more h = tt
 effect_of code g f (op.Branch c a b) _ is at more h = elim h [ ]
 effect_of code g f (op.Switch v d cases) (effect.Edge e) is at more h = tt
 effect_of code g f (op.Switch v d cases) _ is at more h = elim h [ ]
+effect_of code g f (op.Alloca to size) (effect.Keep r name) is at more h = (more refl, rw is h)
+effect_of code g f (op.Alloca to size) (effect.Give r v) is at more h = (more refl, rw is h)
+effect_of code g f (op.Alloca to size) _ is at more h = elim h [ ]
 effect_of code g f op.Unreachable e is at more h = elim h [ ]
 effect_of code g f op.Stuck e is at more h = elim h [ ]
 effect_of code g f _ e is at more h = sets_of code g f e is (more refl) h
@@ -155,3 +159,11 @@ run_next code input s s' n m same e = rw (same, add-one, e, steps_from) refl
 -- an image fails no check
 pub failed_never : (code : Code) (input : Text) (s s' : State Picture) (f : CheckFault) (site : Site) → Follows (λ m. m) (λ before call answer after. ImageAnswers call answer × Fits (does before call) before answer after) (script code input (control s)) s.memory (shown s' (Ok (Failed f site))) s'.memory → ⊥
 failed_never code input s s' f site h = no_check {A = Acted} (script code input (control s)) s.memory (Err (Check f)) s'.memory h
+
+-- a trap leaves what stands, and so does a check
+pub step_keeps : (code : Code) (old new : State Picture) (site : Site) (place output : Type 0) (done : Result (Option Integer) Fault) → StateOf code old → FramesOf code new.frames → IfOk done (λ _. IsPicture new.memory) → IfOk done (λ _. OwnOf new.frames new.memory) → OnErr done ((new.frames ≡ old.frames) × place × output) → IfErr done (λ f. IsStop f → new.memory ≡ old.memory)
+    → IfOk (settled site done) (λ _. StateOf code new)
+step_keeps code old new site place output (Ok n) h f p o e i = record { frames = f; memory = p; own = o }
+step_keeps code old new site place output (Err (Trap t)) h f p o e i = let m : new.memory ≡ old.memory = i tt in record { frames = f; memory = rw m h.memory; own = rw (m, e.0) h.own }
+step_keeps code old new site place output (Err (Check c)) h f p o e i = let m : new.memory ≡ old.memory = i tt in record { frames = f; memory = rw m h.memory; own = rw (m, e.0) h.own }
+step_keeps code old new site place output (Err Memory) h f p o e i = tt

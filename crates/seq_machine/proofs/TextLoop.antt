@@ -1,5 +1,5 @@
 -- The loop over a text.
-use Rattle.std.proofs.Common.{◌≡◌, ℕ, zero, suc, [], ◌∷◌, ◌++◌, refl, ◌+◌, ◌-◌, ◌<◌, List, Result, Ok, Err, arith, false, true, eqb}
+use Rattle.std.proofs.Common.{◌≡◌, ℕ, suc, [], ◌∷◌, ◌++◌, refl, ◌+◌, ◌-◌, ◌<◌, List, Result, Ok, Err, arith}
 use Rattle.std.proofs.lemmas.Bool.{ne_eqb}
 use Rattle.pv_base.specs.declared.place.Site.{Site}
 use Rattle.mem_image.specs.declared.object.Pointer.{Pointer}
@@ -7,7 +7,7 @@ use Rattle.mem_image.specs.declared.fault.Fault.{Fault}
 use Rattle.mem_image.specs.declared.fault.Fault.TheVariants.{Memory}
 use Rattle.mem_image.specs.Picture.{Picture}
 use Rattle.mem_image.specs.Calls.{Call, Reply}
-use Rattle.seq_machine.specs.Script.{Script, Follows}
+use Rattle.seq_machine.specs.Script.{Follows}
 use Rattle.seq_machine.specs.Externals.{text, text_on, read_byte, after}
 use Rattle.seq_machine.proofs.Follow.{follows_chain, follows_cut, follows_out_of_memory}
 

@@ -11,7 +11,7 @@ length_bytes : (len n : ℕ) → length (number_bytes len n) ≡ len
 length_bytes zero n = refl
 length_bytes (suc k) n = ap suc (length_bytes k (n / 256))
 
-parts : (len n k : ℕ) (d : Byte) → k < length (number_bytes len n) → PartFits (get_or (number_bytes len n) k d)
+pub parts : (len n k : ℕ) (d : Byte) → k < length (number_bytes len n) → PartFits (get_or (number_bytes len n) k d)
 parts zero n k d lt = absurd (omega arith)
 parts (suc j) n zero d lt = tt
 parts (suc j) n (suc k) d lt = parts j (n / 256) k d (omega arith)

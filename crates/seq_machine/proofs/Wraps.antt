@@ -1,13 +1,11 @@
 -- Numbers modulo 2^64.
-use Rattle.std.proofs.Common.{◌≡◌, ◌∙◌, ◌^◌, ◌<◌, ◌%◌, ◌-◌, ℕ, refl, sym, ap, arith, Result, Ok, of_z, to_z}
+use Rattle.std.proofs.Common.{◌≡◌, ◌∙◌, ◌^◌, ◌<◌, ℕ, refl, sym, ap, arith, Ok, of_z, to_z}
 use Rattle.std.specs.Prelude.{ℤ, pos, negsuc, ◌+ℤ◌, ◌*ℤ◌, unsigned_abs, FitsSigned}
 use Rattle.std.specs.Int.{w64, w128, int_wrap, int_rem_euclid, cast_signed}
 use Rattle.mem_image.specs.declared.object.Pointer.{Pointer as Address}
 use Rattle.mem_image.specs.declared.object.Pointer.TheVariants.{Null, Obj, Fun}
-use Rattle.mem_image.specs.declared.fault.Trap.{Trap}
 use Rattle.std.proofs.lemmas.Int.{ints, int_wrap-mul_right, int_wrap-add_right, of_z-to_z, to_z-of_z}
 use Rattle.std.proofs.lemmas.Bool.Decides.{nat_tests}
-use Rattle.std.proofs.Math.Nat.{mod-lt}
 use Rattle.int_num.specs.Integer.{signed_of}
 use Rattle.int_num.specs.Operations.{residue}
 use Rattle.seq_machine.specs.Accesses.{wrapped, moved}

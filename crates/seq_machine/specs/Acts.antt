@@ -173,11 +173,19 @@ ending c n = record { control = c; ended = Some n }
 abbrev pub on_top : Control → Frame → Acted
 on_top c f = going_on (record c { frames = with_top c.frames f })
 
--- from the first frame a return ends the run, whose frames stay
+-- a frame that owns nothing more
+abbrev pub bare : Frame → Frame
+bare f = record f { own = [] }
+
+abbrev pub bare_top : List Frame → Option Frame → List Frame
+bare_top frames (Some f) = with_top frames (bare f)
+bare_top frames None = frames
+
+-- from the first frame a return ends the run; the frame stays, and owns nothing more
 abbrev pub back : Code → Control → Option Value → Acted
 back code c v =
     if length c.frames == 1
-    then ending c (exit_number v)
+    then ending (record c { frames = bare_top c.frames (top c.frames) }) (exit_number v)
     else going_on (record c { frames = resumed_top code (without_top c.frames) v (top (without_top c.frames)) })
 
 -- no more bytes are printed

@@ -10,3 +10,4 @@ pub mod Externals
 pub mod Meaning
 pub mod Step
 pub mod Effects
+pub mod Owned

@@ -13,7 +13,7 @@ use Rattle.mem_image.specs.declared.fault.Trap.{Trap as TrapWord}
 use Rattle.mem_image.specs.declared.fault.Trap.TheVariants.{Unreachable}
 use Rattle.mem_image.specs.declared.fault.Fault.{Fault}
 use Rattle.mem_image.specs.declared.fault.Fault.TheVariants.{Trap, Check, Memory}
-use Rattle.mem_image.specs.Picture.{Picture}
+use Rattle.mem_image.specs.Picture.{Picture, IsPicture}
 use Rattle.seq_machine.specs.declared.state.Frame.{Frame}
 use Rattle.seq_machine.specs.declared.state.State.{State}
 use Rattle.seq_machine.specs.declared.state.Effect.{Effect}
@@ -23,10 +23,11 @@ use Rattle.seq_machine.specs.declared.state.Step.TheVariants.{Next, Ended, Trap 
 use Rattle.seq_machine.specs.declared.state.End.{End}
 use Rattle.seq_machine.specs.declared.state.End.TheVariants.{Ended as RunEnded, Trapped as RunTrapped, Spent}
 use Rattle.seq_machine.specs.Script.{Script, Stops, tell, chain, outcome}
-use Rattle.seq_machine.specs.Values.{Sets}
+use Rattle.seq_machine.specs.Values.{Sets, SetsOwn}
 use Rattle.seq_machine.specs.Flow.{IsEntry, IsEntryOf, IsReturn}
 use Rattle.seq_machine.specs.Acts.{Control, Acted, acted, control_of, top, function_at, block_at, op_at, ops_of}
 use Rattle.seq_machine.specs.Frames.{FramesOf}
+use Rattle.seq_machine.specs.Owned.{OwnOf}
 use Rattle.seq_machine.specs.Meaning.{Here, meaning, is_inner}
 
 -- ---- what a step asks of the memory, and gives
@@ -136,6 +137,7 @@ EffectFor code g (op.Return value) e = IsReturn g.result e
 EffectFor code g (op.Jump edge) e = IsEdge e
 EffectFor code g (op.Branch c a b) e = IsEdge e
 EffectFor code g (op.Switch v d cases) e = IsEdge e
+EffectFor code g (op.Alloca to size) e = SetsOwn g.registers e
 EffectFor code g op.Unreachable e = ⊥
 EffectFor code g op.Stuck e = ⊥
 EffectFor code g _ e = Sets g.registers e
@@ -156,6 +158,9 @@ steps_from code input s (suc n) = goes_on (step code input s).0 (step code input
 
 -- ---- a state of the module
 
--- the frames are of the code
+-- The frames are of the code; the names of the memory rise and are below the next; and what the frames own are live stack
+-- slots, each in one place of one frame.
 pub record StateOf (code : Code) (s : State Picture) : Type 0 where
   pub frames : FramesOf code s.frames
+  pub memory : IsPicture s.memory
+  pub own : OwnOf s.frames s.memory

@@ -148,14 +148,20 @@ abbrev pub HoldsIf : List Scalar → Option ℕ → Value → Type 0
 HoldsIf types None v = Unit {0}
 HoldsIf types (Some to) v = Holds types to v
 
--- what is set has its type; no frame comes or goes
+-- what is set has its type; no frame comes or goes, and no frame owns more
 abbrev pub Sets : List Scalar → Effect → Type 0
 Sets types Next = Unit {0}
 Sets types (Give to v) = Holds types to v
-Sets types (Keep to name) = Holds types to (Pointer (Obj name (pos 0)))
+Sets types (Keep to name) = ⊥
 Sets types (Edge e) = Unit {0}
 Sets types (Enter function registers) = ⊥
 Sets types (Back v) = ⊥
 Sets types (Exit n) = Unit {0}
 Sets types (Print text to v) = HoldsIf types to v
 Sets types (Take place to v) = HoldsIf types to v
+
+-- the same of a register that is given a stack object
+abbrev pub SetsOwn : List Scalar → Effect → Type 0
+SetsOwn types (Keep to name) = Holds types to (Pointer (Obj name (pos 0)))
+SetsOwn types (Give to v) = Holds types to v
+SetsOwn types _ = ⊥

@@ -5,7 +5,7 @@ ghost use Rattle.mem_image.specs.Calls.{Bytes};
 ghost use Rattle.seq_machine.specs.Words.{word_length};
 ghost use Rattle.seq_machine.specs.Effects.{MayStop};
 ghost use Rattle.seq_machine.specs.Script.{Follows};
-ghost use Rattle.seq_machine.specs.Values.{Sets, Holds, is_some_type};
+ghost use Rattle.seq_machine.specs.Values.{Sets, SetsOwn, Holds, is_some_type};
 ghost use Rattle.seq_machine.specs.Accesses.{loaded_reply, load, store, alloca};
 ghost use Rattle.seq_machine.specs.declared.state.Value.TheVariants as held;
 
@@ -103,7 +103,7 @@ pub fn alloca<M: Mem>(
     ensures follows { Follows M.image M.relation (alloca types.now at to size) memory.old result memory.new }
     ensures image { OnErr result (M.image memory.new ≡ M.image memory.old) }
     ensures plain { IfOk result (λ e. MayStop e → ⊥) }
-    ensures sets { IfOk result (Sets types.now) }
+    ensures sets { IfOk result (SetsOwn types.now) }
 {
     if !holds_pointer(types, to) {
         return Err(Fault::Trap(Trap::Unreachable));

@@ -4,7 +4,7 @@ ghost use Rattle.mem_image.specs.declared.fault.Fault.TheVariants.{Memory as NoM
 ghost use Rattle.mem_image.specs.declared.fault.Trap.TheVariants.{Depth as DepthTrap, Output as OutputTrap};
 ghost use Rattle.seq_machine.specs.Script.{Tells, sent, ends};
 ghost use Rattle.seq_machine.specs.Values.{AreOf, Holds, then_};
-ghost use Rattle.seq_machine.specs.Acts.{top, with_top, next, put, keep, put_if, move_value, move_values, set_moves, arrived, taken, types_of, function_at, MovesHold, Stands, blocks_of, phis_of, entered, exit_number, result_register, op_at, back, resumed_top, without_top, put_result, acted, control_of, acted_of, frame_limit, output_limit};
+ghost use Rattle.seq_machine.specs.Acts.{top, with_top, next, put, keep, put_if, move_value, move_values, set_moves, arrived, taken, types_of, function_at, MovesHold, Stands, blocks_of, phis_of, entered, exit_number, result_register, op_at, back, bare_top, resumed_top, without_top, put_result, acted, control_of, acted_of, frame_limit, output_limit};
 ghost use Rattle.seq_machine.specs.Frames.{CodeOk, FrameOf, FramesOf, HasMore, HoldsResult, EffectOf, result_of};
 ghost use Rattle.seq_machine.specs.Flow.{IsResult};
 ghost use Rattle.seq_machine.specs.Effects.{StopsAt};
@@ -317,6 +317,16 @@ fn resume(code: &Code, frames: &mut List<Frame>, value: Option<Value>)
     put_result(frames, to, value);
 }
 
+/// The top frame owns nothing more.
+fn bare_top(frames: &mut List<Frame>)
+    requires { 0 < length frames.old }
+    ensures { frames.new ≡ bare_top frames.old (top frames.old) }
+{
+    let mut frame = take_top(frames);
+    frame.own.clear();
+    put_top(frames, frame);
+}
+
 /// The top frame is gone, and the one below goes on; from the first frame a number ends the run.
 fn back(code: &Code, frames: &mut List<Frame>, value: Option<Value>) -> Option<Int>
     requires code { CodeOk code.now }
@@ -326,6 +336,7 @@ fn back(code: &Code, frames: &mut List<Frame>, value: Option<Value>) -> Option<I
     ensures kept { FramesOf code.now frames.new }
 {
     if frames.len() == 1 {
+        bare_top(frames);
         return Some(exit_number(value));
     }
     drop_top(frames);

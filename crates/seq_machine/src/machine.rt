@@ -1,5 +1,7 @@
 //! One step over any memory.
-ghost use Rattle.std.specs.Prelude.{◌≡◌, ◌+◌, ◌<◌, ◌^◌, nat_lt, not, ◌||◌, length, slice_get, IfErr, OnErr, Some, true};
+ghost use Rattle.std.specs.Prelude.{◌≡◌, ◌+◌, ◌<◌, ◌^◌, nat_lt, not, ◌||◌, length, slice_get, IfOk, IfErr, OnErr, Some, true};
+ghost use Rattle.mem_image.specs.Picture.{IsPicture};
+ghost use Rattle.seq_machine.specs.Owned.{OwnOf};
 ghost use Rattle.seq_machine.specs.Script.{Follows, chain, tell, sent};
 ghost use Rattle.seq_machine.specs.Acts.{top, acted, acted_of, control_of, function_at, block_at, op_at, ops_of};
 ghost use Rattle.seq_machine.specs.Effects.{IsStop};
@@ -73,6 +75,8 @@ fn perform<M: Mem>(
 ) -> Result<Option<Int>, Fault>
     requires code { CodeOk code.now }
     requires frames { FramesOf code.now frames.old }
+    requires picture { IsPicture (M.image memory.old) }
+    requires own { OwnOf frames.old (M.image memory.old) }
     requires function { (f : _) → top frames.old ≡ Some f → function_at code.now f ≡ Some function.now }
     requires op { (f : _) → top frames.old ≡ Some f → op_at code.now f ≡ Some op.now }
     requires more { (f : _) → top frames.old ≡ Some f → is_inner op.now ≡ true → HasMore code.now f }
@@ -83,6 +87,8 @@ fn perform<M: Mem>(
     ensures err { OnErr result ((frames.new ≡ frames.old) × (input_place.new ≡ input_place.old) × (output.new ≡ output.old)) }
     ensures image { IfErr result (λ fault. IsStop fault → M.image memory.new ≡ M.image memory.old) }
     ensures kept { FramesOf code.now frames.new }
+    ensures picture { IfOk result (λ _. IsPicture (M.image memory.new)) }
+    ensures own { IfOk result (λ _. OwnOf frames.new (M.image memory.new)) }
 {
     let frame = frames.at(frames.len() - 1);
     match execute(code, function, frame, memory, site, input, *input_place, op) {
@@ -110,6 +116,8 @@ fn advance<M: Mem>(
 ) -> Result<Option<Int>, Fault>
     requires code { CodeOk code.now }
     requires frames { FramesOf code.now frames.old }
+    requires picture { IsPicture (M.image memory.old) }
+    requires own { OwnOf frames.old (M.image memory.old) }
     requires site { site ≡ site_of code.now (top frames.old) }
     requires ready { M.ready memory.old }
     ensures ready { M.ready memory.new }
@@ -117,6 +125,8 @@ fn advance<M: Mem>(
     ensures err { OnErr result ((frames.new ≡ frames.old) × (input_place.new ≡ input_place.old) × (output.new ≡ output.old)) }
     ensures image { IfErr result (λ fault. IsStop fault → M.image memory.new ≡ M.image memory.old) }
     ensures kept { FramesOf code.now frames.new }
+    ensures picture { IfOk result (λ _. IsPicture (M.image memory.new)) }
+    ensures own { IfOk result (λ _. OwnOf frames.new (M.image memory.new)) }
 {
     let frame = frames.at(frames.len() - 1);
     let function = code.functions.at(frame.function as usize);
@@ -160,7 +170,7 @@ pub fn step<M: Mem>(code: &Code, state: &mut State<M>, input: &[u8]) -> Result<S
     requires steps { state.old.steps + 1 < 2 ^ 64 }
     requires ready { M.ready state.old.memory }
     ensures ready { M.ready state.new.memory }
-    ensures kept { StateOf code.now (stands M.image state.new) }
+    ensures kept { IfOk result (λ _. StateOf code.now (stands M.image state.new)) }
     ensures follows { Follows M.image M.relation (script code.now input.now (control state.old)) state.old.memory (shown state.new result) state.new.memory }
     ensures step { StepsTo code.now input.now (stands M.image state.old) result (stands M.image state.new) }
 {

@@ -1,4 +1,4 @@
-use Rattle.std.proofs.Common.{◌≡◌, sym, ◌∙◌, Ok, Err}
+use Rattle.std.proofs.Common.{sym, ◌∙◌, Ok, Err}
 use Rattle.seq_machine.specs.Accesses.{exact}
 use Rattle.seq_machine.proofs.Addressing.{address_cut, address_done}
 use Rattle.seq_machine.proofs.addresses.address.Goals as goal

@@ -1,4 +1,4 @@
-use Rattle.std.proofs.Common.{◌≡◌, ◌∙◌, ◌+ℤ◌, Ok, ap, sym, rules}
+use Rattle.std.proofs.Common.{◌∙◌, ◌+ℤ◌, Ok, ap, sym, rules}
 use Rattle.std.specs.Prelude.{FitsSigned}
 use Rattle.std.specs.Int.{w64, int_wrap}
 use Rattle.std.proofs.lemmas.Int.{wrapping_add_is}

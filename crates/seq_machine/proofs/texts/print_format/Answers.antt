@@ -1,4 +1,3 @@
-use Rattle.std.proofs.Common.{◌≡◌}
 use Rattle.seq_machine.proofs.TextLists.{operands_cut, format_cut, format_done}
 use Rattle.seq_machine.proofs.texts.print_format.Goals as goal
 

@@ -1,4 +1,3 @@
-use Rattle.std.proofs.Common.{◌≡◌}
 use Rattle.seq_machine.specs.Externals.{formatting}
 use Rattle.seq_machine.proofs.Follow.{follows_out_of_memory}
 use Rattle.seq_machine.proofs.TextLists.{values_cut, values_done}

@@ -1,4 +1,3 @@
-use Rattle.std.proofs.Common.{◌≡◌}
 use Rattle.seq_machine.proofs.Printing.{puts_cut, puts_done}
 use Rattle.seq_machine.proofs.texts.put_text.Goals as goal
 

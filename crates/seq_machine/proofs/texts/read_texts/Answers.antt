@@ -1,4 +1,4 @@
-use Rattle.std.proofs.Common.{◌≡◌, ◌∙◌, ◌<◌, ap, get_or, length, length-set, slice_get}
+use Rattle.std.proofs.Common.{◌∙◌, ◌<◌, ap, get_or, length, length-set, slice_get}
 use Rattle.std.proofs.lemmas.List.Elements.{All-get_or}
 use Rattle.seq_calls.specs.Format.{IsPointer}
 use Rattle.seq_machine.proofs.TextLists.{pointer_there, texts_more, texts_cut}

@@ -1,4 +1,4 @@
-use Rattle.std.proofs.Common.{◌≡◌, ℕ, List, Result, length, drop}
+use Rattle.std.proofs.Common.{◌≡◌, List, Result, length, drop}
 use Rattle.mem_image.specs.declared.fault.Fault.{Fault}
 use Rattle.seq_calls.specs.declared.show.Arg.{Arg}
 use Rattle.seq_machine.specs.Script.{Follows}

@@ -1,4 +1,4 @@
-use Rattle.std.proofs.Common.{◌≡◌, ◌∙◌}
+use Rattle.std.proofs.Common.{◌∙◌}
 use Rattle.seq_machine.proofs.TextLoop.{text_ends, text_more, text_cut, text_out_of_memory}
 use Rattle.seq_machine.proofs.texts.text.Goals as goal
 
