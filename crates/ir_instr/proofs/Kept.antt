@@ -20,3 +20,7 @@ types_kept a b bodies are grows = λ name. some_within a b grows (option_and_the
 -- numbers of names stay such
 pub names_kept : (a b : Table) (ks : List ℕ) → AreNames a ks → Grows a b → AreNames b ks
 names_kept a b ks are grows = λ i d lt. name_within_more a b (get_or ks i d) grows (are i d lt)
+
+-- a table keeps what it has
+pub same_table : (t : Table) → Grows t t
+same_table t = record { names = λ k x e. e; types = λ k x e. e; constants = λ k x e. e }

@@ -5,3 +5,6 @@ pub mod KeptTurns
 pub mod CaseTurns
 pub mod AttributeTurns
 pub mod ArgumentTurns
+pub mod Contents
+pub mod FieldTurns
+pub mod IndexTurns

@@ -17,3 +17,4 @@ pub mod Results
 pub mod Noting
 pub mod Gathering
 pub mod Switching
+pub mod Placing

@@ -258,11 +258,7 @@ fn variadic(cursor: &mut Cursor<'_>) -> Result<bool, ReadEnd>
 
 /// Reads what is called: `@f`, or `%p` where no function type is written.
 #[tactic(auto, using(ir_text::proofs::Later::later), unfolding(ir_text::specs::Reading::token_by))]
-fn callee(
-    cursor: &mut Cursor<'_>,
-    names: &mut Names,
-    is_written: bool,
-) -> Result<Callee, ReadEnd>
+fn callee(cursor: &mut Cursor<'_>, names: &mut Names, is_written: bool) -> Result<Callee, ReadEnd>
     ensures reads { ReadsUnder names.new shown_callee cursor.new result (token_by (spec.called is_written) cursor.old) }
     ensures grows { Grows names.old names.new }
 {
@@ -281,10 +277,7 @@ fn callee(
 }
 
 /// Reads the type of a call's answer: with a result, a register's.
-fn answer_type(
-    cursor: &mut Cursor<'_>,
-    to: Option<NameId>,
-) -> Result<Option<Scalar>, ReadEnd>
+fn answer_type(cursor: &mut Cursor<'_>, to: Option<NameId>) -> Result<Option<Scalar>, ReadEnd>
     ensures { (later : Table) → Reads result_of_type cursor.new result (token_by (spec.answer_type (option_map (name_at later) to)) cursor.old) }
 {
     match to {

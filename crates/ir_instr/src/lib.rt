@@ -1,6 +1,7 @@
 //! Instructions of module text.
 #![tactic(auto)]
 
+pub mod addresses;
 pub mod arithmetic;
 pub mod calls;
 pub mod casts;

@@ -144,7 +144,7 @@ node_same f g names k (node.Struct packed ks) at to within spelled same = ap (St
 node_same f g names k (node.Named x) at to within spelled same = ap NamedV (spelled x within)
 
 -- the type of a node, by the types of the numbers in it
-type_by : (t : Table) (names k : ℕ) (n : TypeNode) → TypeWithin names k n → slice_get t.types k ≡ Some n → type_at t k ≡ type_of_node (name_at t) (type_at t) n
+pub type_by : (t : Table) (names k : ℕ) (n : TypeNode) → TypeWithin names k n → slice_get t.types k ≡ Some n → type_at t k ≡ type_of_node (name_at t) (type_at t) n
 unfolding type_at
 type_by t names k n within known =
     let all = meanings (type_of_node (name_at t)) PtrV [] t.types in
@@ -152,7 +152,7 @@ type_by t names k n within known =
     ∙ node_same (name_at t) (name_at t) names k n (λ j. get_or (take k all) j PtrV) (λ j. get_or all j PtrV) within (λ x lt. refl) (λ j lt. get_or-take k all j PtrV lt)
 
 module _ (a b : Table) (is_a : IsTable a) (grows : Grows a b) where
-  name_kept : (x : ℕ) → x < length a.names → name_at b x ≡ name_at a x
+  pub name_kept : (x : ℕ) → x < length a.names → name_at b x ≡ name_at a x
   name_kept x lt = get_or_from_slice_get b.names x (get_or a.names x (Numbered 0)) (Numbered 0) (grows.names x _ (slice_get-get_or a.names x (Numbered 0) lt))
 
   kept_below : (m k : ℕ) → k < m → k < length a.types → type_at b k ≡ type_at a k
