@@ -1,1 +1,5 @@
+pub mod FunctionLemmas
+pub mod ReadingLemmas
+pub mod SumLemmas
+pub mod TestedLemmas
 pub mod WithinLemmas
