@@ -6,3 +6,4 @@ pub mod Turns
 pub mod Results
 pub mod Keeping
 pub mod Blocks
+pub mod Globals

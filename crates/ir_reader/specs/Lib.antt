@@ -1,3 +1,4 @@
 pub mod Scoping
 pub mod Heads
 pub mod Behind
+pub mod Placing

@@ -51,11 +51,7 @@ fn result_of(instruction: &Instruction) -> Option<NameId>
 }
 
 /// Notes what an instruction defines.
-fn note_result(
-    names: &Names,
-    scope: &mut Scope,
-    instruction: &Instruction,
-) -> Result<(), Memory>
+fn note_result(names: &Names, scope: &mut Scope, instruction: &Instruction) -> Result<(), Memory>
     requires names { AreNames names.now scope.old.defined }
     requires within { IfSome (result_of instruction.now) (λ k. k < length names.now.names) }
     ensures defines { OnOk result ((later : Table) → Grows names.now later → scope_at later scope.new ≡ after_instruction (scope_at later scope.old) (shown later instruction.now)) }
@@ -213,11 +209,7 @@ fn numbered(names: &mut Names, number: u64) -> Result<NameId, Memory>
 }
 
 /// Reads the label of the entry block, or gives it the next number.
-fn entry_label(
-    cursor: &mut Cursor<'_>,
-    names: &mut Names,
-    scope: &Scope,
-) -> Result<NameId, ReadEnd>
+fn entry_label(cursor: &mut Cursor<'_>, names: &mut Names, scope: &Scope) -> Result<NameId, ReadEnd>
     requires { AreNames names.old scope.now.defined }
     ensures reads { (later : Table) → Grows names.new later → Reads (name_at later) cursor.new result (spec.entry_label_at (scope_at later scope.now) cursor.old) }
     ensures within { IfOk result (λ k. k < length names.new.names) }

@@ -1,8 +1,9 @@
 //! Whole modules from their text.
 #![tactic(auto)]
 
+pub mod body;
+pub mod global;
 pub mod names;
+pub mod params;
 pub mod scope;
 pub mod skipped;
-pub mod params;
-pub mod body;

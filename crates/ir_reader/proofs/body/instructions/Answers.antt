@@ -40,11 +40,11 @@ loop-turn-preserved c = record {
       let turn : length c.args.cursor.now - c.loop-turn.turn ≡ suc (length c.args.cursor.now - (c.loop-turn.turn + 1)) = omega arith in
       let so_far = c.loop-turn.invariant.so_far later (grows_then _ _ _ c.in_ok-read.ensures.grows grows) in
       rw (c.in_ok-push.ensures.ok, map_push (shown later) c.loop-turn.found c.in_ok-read.read, c.in_ok-read.ensures.defines later grows)
-        (goes_on in_block (step_at (known_of later c.args.known.now)) after_instruction _ _ (scope_at later c.loop-turn.scope) c.loop-turn.cursor (map (shown later) c.loop-turn.found) (shown later c.in_ok-read.read) c.noted_instruction.new.cursor _ turn (sym c.sees_instruction.ensures ∙ c.if-not-sees_instruction.false) (c.in_ok-read.ensures.reads later grows) so_far);
+      (goes_on in_block (step_at (known_of later c.args.known.now)) after_instruction _ _ (scope_at later c.loop-turn.scope) c.loop-turn.cursor (map (shown later) c.loop-turn.found) (shown later c.in_ok-read.read) c.noted_instruction.new.cursor _ turn (sym c.sees_instruction.ensures ∙ c.if-not-sees_instruction.false) (c.in_ok-read.ensures.reads later grows) so_far);
   defines = λ later grows.
       let before = c.loop-turn.invariant.defines later (grows_then _ _ _ c.in_ok-read.ensures.grows grows) in
       rw (c.in_ok-push.ensures.ok, map_push (shown later) c.loop-turn.found c.in_ok-read.read, fold-append after_instruction (scope_at later c.args.scope.now) (map (shown later) c.loop-turn.found) (shown later c.in_ok-read.read ∷ []), ← before)
-        (c.in_ok-read.ensures.defines later grows);
+      (c.in_ok-read.ensures.defines later grows);
   names = c.in_ok-read.ensures.names;
   types = types_kept _ _ c.args.known.now c.loop-turn.invariant.types c.in_ok-read.ensures.grows;
   laid = c.in_ok-read.ensures.laid;

@@ -39,7 +39,7 @@ loop-turn-preserved c = record {
       let turn : length c.args.cursor.now - c.loop-turn.turn ≡ suc (length c.args.cursor.now - (c.loop-turn.turn + 1)) = omega arith in
       let so_far = c.loop-turn.invariant.so_far later (grows_then _ _ _ c.in_ok-read.ensures.grows grows) in
       rw (c.in_ok-push.ensures.ok, map_push (shown_block later) c.loop-turn.found c.in_ok-read.read, c.in_ok-read.ensures.defines later grows)
-        (goes_on is_label (block_at (known_of later c.args.known.now)) after_block _ _ (scope_at later c.loop-turn.scope) c.loop-turn.cursor (map (shown_block later) c.loop-turn.found) (shown_block later c.in_ok-read.read) c.block.new.cursor _ turn (sym c.sees_label.ensures ∙ c.if-not-sees_label.false) (c.in_ok-read.ensures.reads later grows) so_far);
+      (goes_on is_label (block_at (known_of later c.args.known.now)) after_block _ _ (scope_at later c.loop-turn.scope) c.loop-turn.cursor (map (shown_block later) c.loop-turn.found) (shown_block later c.in_ok-read.read) c.block.new.cursor _ turn (sym c.sees_label.ensures ∙ c.if-not-sees_label.false) (c.in_ok-read.ensures.reads later grows) so_far);
   names = c.in_ok-read.ensures.names;
   types = types_kept _ _ c.args.known.now c.loop-turn.invariant.types c.in_ok-read.ensures.grows;
   laid = c.in_ok-read.ensures.laid;

@@ -33,13 +33,13 @@ returns-then-not-eat-clause-reads c = λ later grows.
     let turn : length c.args.cursor.now - c.loop-turn.turn ≡ suc (length c.args.cursor.now - (c.loop-turn.turn + 1)) = omega arith in
     let so_far = c.loop-turn.invariant.so_far later (grows_then _ _ _ c.in_ok-param.ensures.grows grows) in
     rw (c.if-not-eat.ensures.new, c.in_ok-push.ensures.ok, map_push (shown_param later) c.loop-turn.params c.in_ok-param.param)
-      (last_param c.args.declared _ _ (scope_at later c.loop-turn.scope) c.loop-turn.cursor (map (shown_param later) c.loop-turn.params) _ turn so_far (shown_param later c.in_ok-param.param) c.noted_param.new.cursor (sym c.sees_points.ensures ∙ c.if-sees_points.false) (c.in_ok-param.ensures.reads later grows) (sym c.if-not-eat.ensures.sees))
+    (last_param c.args.declared _ _ (scope_at later c.loop-turn.scope) c.loop-turn.cursor (map (shown_param later) c.loop-turn.params) _ turn so_far (shown_param later c.in_ok-param.param) c.noted_param.new.cursor (sym c.sees_points.ensures ∙ c.if-sees_points.false) (c.in_ok-param.ensures.reads later grows) (sym c.if-not-eat.ensures.sees))
 
 pub returns-then-not-eat-clause-defines : goal.returns-then-not-eat-clause-defines
 returns-then-not-eat-clause-defines c = λ later grows.
     let before = c.loop-turn.invariant.defines later (grows_then _ _ _ c.in_ok-param.ensures.grows grows) in
     rw (c.in_ok-push.ensures.ok, map_push (shown_param later) c.loop-turn.params c.in_ok-param.param, fold-append after_param (scope_at later c.args.scope.now) (map (shown_param later) c.loop-turn.params) (shown_param later c.in_ok-param.param ∷ []), ← before)
-      (c.in_ok-param.ensures.defines later grows)
+    (c.in_ok-param.ensures.defines later grows)
 
 pub loop-turn-preserved : goal.loop-turn-preserved
 loop-turn-preserved c = record {
@@ -47,11 +47,11 @@ loop-turn-preserved c = record {
       let turn : length c.args.cursor.now - c.loop-turn.turn ≡ suc (length c.args.cursor.now - (c.loop-turn.turn + 1)) = omega arith in
       let so_far = c.loop-turn.invariant.so_far later (grows_then _ _ _ c.in_ok-param.ensures.grows grows) in
       rw (c.if-not-eat.ensures.new, c.in_ok-push.ensures.ok, map_push (shown_param later) c.loop-turn.params c.in_ok-param.param, c.in_ok-param.ensures.defines later grows)
-        (goes_on c.args.declared _ _ (scope_at later c.loop-turn.scope) c.loop-turn.cursor (map (shown_param later) c.loop-turn.params) _ turn so_far (shown_param later c.in_ok-param.param) c.noted_param.new.cursor (sym c.sees_points.ensures ∙ c.if-sees_points.false) (c.in_ok-param.ensures.reads later grows) (sym c.if-not-eat.ensures.sees));
+      (goes_on c.args.declared _ _ (scope_at later c.loop-turn.scope) c.loop-turn.cursor (map (shown_param later) c.loop-turn.params) _ turn so_far (shown_param later c.in_ok-param.param) c.noted_param.new.cursor (sym c.sees_points.ensures ∙ c.if-sees_points.false) (c.in_ok-param.ensures.reads later grows) (sym c.if-not-eat.ensures.sees));
   defines = λ later grows.
       let before = c.loop-turn.invariant.defines later (grows_then _ _ _ c.in_ok-param.ensures.grows grows) in
       rw (c.in_ok-push.ensures.ok, map_push (shown_param later) c.loop-turn.params c.in_ok-param.param, fold-append after_param (scope_at later c.args.scope.now) (map (shown_param later) c.loop-turn.params) (shown_param later c.in_ok-param.param ∷ []), ← before)
-        (c.in_ok-param.ensures.defines later grows);
+      (c.in_ok-param.ensures.defines later grows);
   names = c.in_ok-param.ensures.names;
   grows = grows_then _ _ _ c.loop-turn.invariant.grows c.in_ok-param.ensures.grows;
 }
