@@ -156,67 +156,63 @@ module _ {A : Type 0} (n : ℕ) (between follow : Follow) (r : Reader (Unit {0})
         met [] u more is = rw is refl
         met (v ∷ us) u more is = rw is refl
 
-    module _ (x : Unit {0} × List TokenV) (is : r (t ∷ ts) ≡ Ok x) where
-      -- what is read before the next token
-      reads : (front : List TokenV) (u : TokenV) (more others : List TokenV) → t ∷ ts ≡ front ++ u ∷ more → r (front ++ u ∷ others) ≡ Ok (tt, u ∷ others) → marked (front ++ u ∷ others) ≡ blaming t (u ∷ others)
-      reads front u more others parts e =
-          let f = first_of t ts front u more others parts in
-          let here : r (t ∷ f.0) ≡ Ok (tt, u ∷ others) = ap r (sym f.1) ∙ e in
+    -- behind what was read, up to a token
+    module _ (front : List TokenV) (u : TokenV) (more : List TokenV) (cut : t ∷ ts ≡ front ++ u ∷ more) (again : (others : List TokenV) → r (front ++ u ∷ others) ≡ Ok (tt, u ∷ others)) (alone : Unfaulted (r front)) where
+      reads : (others : List TokenV) → marked (front ++ u ∷ others) ≡ blaming t (u ∷ others)
+      reads others =
+          let f = first_of t ts front u more others cut in
+          let here : r (t ∷ f.0) ≡ Ok (tt, u ∷ others) = ap r (sym f.1) ∙ again others in
           ap marked f.1 ∙ rw here refl
 
-      late : (us : List TokenV) → x.1 ≡ us → blaming t us ≡ Err (At line why) → WrongAt marked (t ∷ ts) line why
-      late [] none e = absurd cc
-      late (u ∷ more) next e =
+      goes_on : (others : List TokenV) → test u ≡ true → marked (front ++ u ∷ others) ≡ k others
+      goes_on others there = reads others ∙ passes t u others there
+
+      still : test u ≡ true → (vs : List TokenV) → Unfaulted (k vs) → Unfaulted (marked (front ++ u ∷ vs))
+      still there vs (inl all) = inl (all.0, goes_on vs there ∙ all.1)
+      still there vs (inr needs) = inr (goes_on vs there ∙ needs)
+
+      behind_it : test u ≡ true → WrongAt k more line why → WrongAt marked (t ∷ ts) line why
+      behind_it there w = record {
+        front = front ++ u ∷ w.front;
+        token = w.token;
+        rest = w.rest;
+        parts = cut ∙ ap (λ (v : List TokenV). front ++ u ∷ v) w.parts ∙ sym (append_assoc front (u ∷ w.front) (w.token ∷ w.rest));
+        on_line = subst (λ (v : List TokenV). OnLine line v) (sym (append_assoc front (u ∷ w.front) (w.token ∷ []))) (line_behind line front (u ∷ (w.front ++ w.token ∷ [])) (line_behind line (u ∷ []) (w.front ++ w.token ∷ []) w.on_line));
+        still_open = still there w.front w.still_open;
+        stays = λ others. ap marked (append_assoc front (u ∷ w.front) (w.token ∷ others)) ∙ goes_on (w.front ++ w.token ∷ others) there ∙ w.stays others;
+      }
+
+      at_it : test u ≡ false → wrong t cause ≡ failed (At line why) → WrongAt marked (t ∷ ts) line why
+      at_it none here =
+          let at : t.line ≡ line = cc in
+          let f = first_of t ts front u more [] cut in
+          record {
+            front = front;
+            token = u;
+            rest = more;
+            parts = cut;
+            on_line = record { before = []; token = t; behind = f.0; parts = f.1; is = at };
+            still_open = inr (read_open front alone);
+            stays = λ others. reads others ∙ blames t u others none ∙ here;
+          }
+
+      late_at : blaming t (u ∷ more) ≡ Err (At line why) → WrongAt marked (t ∷ ts) line why
+      late_at e =
+          let size : length (t ∷ ts) ≡ length front + suc (length more) = ap length cut ∙ length-append front (u ∷ more) in
           elim (cases_Bool (test u)) [
-            | inl there ↦
-                let size : length (t ∷ ts) ≡ length one.front + suc (length more) = ap length cut ∙ length-append one.front (u ∷ more) in
-                let w = behind.faults more line why (omega arith) (sym (passes t u more there) ∙ e) in
-                record {
-                  front = one.front ++ u ∷ w.front;
-                  token = w.token;
-                  rest = w.rest;
-                  parts = cut ∙ ap (λ (v : List TokenV). one.front ++ u ∷ v) w.parts ∙ sym (append_assoc one.front (u ∷ w.front) (w.token ∷ w.rest));
-                  on_line = subst (λ (v : List TokenV). OnLine line v) (sym (append_assoc one.front (u ∷ w.front) (w.token ∷ []))) (line_behind line one.front (u ∷ (w.front ++ w.token ∷ [])) (line_behind line (u ∷ []) (w.front ++ w.token ∷ []) w.on_line));
-                  still_open = still there w.front w.still_open;
-                  stays = λ others. ap marked (append_assoc one.front (u ∷ w.front) (w.token ∷ others)) ∙ reads one.front u more (w.front ++ w.token ∷ others) cut (again (w.front ++ w.token ∷ others)) ∙ passes t u (w.front ++ w.token ∷ others) there ∙ w.stays others;
-                }
-            | inr none ↦
-                let here : failed (At t.line (blamed t cause)) ≡ failed (At line why) = sym (blames t u more none) ∙ e in
-                let at : t.line ≡ line = cc in
-                let f = first_of t ts one.front u more [] cut in
-                record {
-                  front = one.front;
-                  token = u;
-                  rest = more;
-                  parts = cut;
-                  on_line = record { before = []; token = t; behind = f.0; parts = f.1; is = at };
-                  still_open = inr (read_open one.front all_or_more);
-                  stays = λ others. reads one.front u more others cut (again others) ∙ blames t u others none ∙ here;
-                }
-          ]
-        where
-          one : Takes r s (t ∷ ts) x.0 x.1
-          one = first.sound (t ∷ ts) x is
-
-          cut : t ∷ ts ≡ one.front ++ u ∷ more
-          cut = one.parts ∙ ap (λ (v : List TokenV). one.front ++ v) next
-
-          again : (others : List TokenV) → r (one.front ++ u ∷ others) ≡ Ok (tt, u ∷ others)
-          again others = one.again (u ∷ others) (record { token = u; ts_rest = more; us_rest = others; ts_is = next; us_is = refl })
-
-          all_or_more : Unfaulted (r one.front)
-          all_or_more = elim one.alone [
-            | inl all ↦ inl (tt, all)
-            | inr needs ↦ inr needs
+            | inl there ↦ behind_it there (behind.faults more line why (omega arith) (sym (passes t u more there) ∙ e))
+            | inr none ↦ at_it none (sym (blames t u more none) ∙ e)
           ]
 
-          still : test u ≡ true → (vs : List TokenV) → Unfaulted (k vs) → Unfaulted (marked (one.front ++ u ∷ vs))
-          still there vs o =
-              let same : marked (one.front ++ u ∷ vs) ≡ k vs = reads one.front u more vs cut (again vs) ∙ passes t u vs there in
-              elim o [
-                | inl all ↦ inl (all.0, same ∙ all.1)
-                | inr needs ↦ inr (same ∙ needs)
-              ]
+    late : (x : Unit {0} × List TokenV) → r (t ∷ ts) ≡ Ok x → (us : List TokenV) → x.1 ≡ us → blaming t us ≡ Err (At line why) → WrongAt marked (t ∷ ts) line why
+    late x is [] none e = absurd cc
+    late x is (u ∷ more) next e =
+        let one = first.sound (t ∷ ts) x is in
+        late_at one.front u more (one.parts ∙ ap (λ (v : List TokenV). one.front ++ v) next) (λ others. one.again (u ∷ others) (record { token = u; ts_rest = more; us_rest = others; ts_is = next; us_is = refl }))
+        (elim one.alone [
+          | inl all ↦ inl (tt, all)
+          | inr needs ↦ inr needs
+        ]) e
 
   marked_faults : (ts : List TokenV) (line : ℕ) (why : Cause) → length ts ≤ n → marked ts ≡ Err (At line why) → WrongAt marked ts line why
   marked_faults [] line why short e = absurd cc
