@@ -1,5 +1,8 @@
 pub mod ConstantSame
+pub mod FindingLemmas
+pub mod FirstLemmas
+pub mod IndexLemmas
+pub mod KeyLemmas
 pub mod KindLemmas
 pub mod PhiLemmas
-pub mod FindingLemmas
 pub mod ScanLemmas

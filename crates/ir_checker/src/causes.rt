@@ -3,18 +3,18 @@ ghost use Rattle.std.specs.Prelude.{◌≡◌, IfOk};
 ghost use Rattle.ir_tree.specs.Naming.{name_at};
 ghost use Rattle.ir_tree.specs.Shown.{shown, shown_function, shown_global};
 ghost use Rattle.ir_rules.specs.Seen.{seen};
-ghost use Rattle.ir_rules.specs.Defining.{defined};
 ghost use Rattle.ir_rules.specs.Heads.{AreTables};
 ghost use Rattle.ir_checker.specs.Facts.{AreFacts};
+ghost use Rattle.ir_checker.specs.Scopes.{IsScope};
 ghost use Rattle.ir_checker.specs.Finding.{spot_cause, global_cause, whole_cause};
 
+use crate::calls::call_allowed;
 use crate::facts::Facts;
+use crate::meeting::{names_known, types_fit};
 use crate::phis::phi_fits;
+use crate::scope::Scope;
 use ir_rules::edges::{alloca_fits, spares_entry, terminates};
-use ir_rules::externals::call_allowed;
 use ir_rules::fault::CheckCause;
-use ir_rules::given::Defined;
-use ir_rules::meeting::{names_known, types_fit};
 use ir_rules::tables::Tables;
 use ir_rules::whole::{initialiser_fits, initialiser_known, main_fits, main_of};
 use ir_tree::instruction::Instruction;
@@ -42,18 +42,18 @@ pub fn spot_cause(
     tree: &Module,
     facts: &Facts,
     function: &Function,
-    all: &[Defined],
+    scope: &Scope,
     standing: Standing,
     instruction: &Instruction,
 ) -> Result<Option<CheckCause>, Memory>
     requires facts { AreFacts tree.now facts.now }
-    requires all { all.now ≡ defined function.now }
+    requires scope { IsScope tree.now.names facts.now.index.zero function.now scope.now }
     ensures { IfOk result (λ c. c ≡ spot_cause (seen tree.now) (shown_function tree.now.names function.now) standing.lack (record { instruction = shown tree.now.names instruction.now; label = name_at tree.now.names standing.label; entry = standing.entry; behind_phis = standing.behind; last = standing.last })) }
 {
-    if !names_known(alloc, tree, &facts.tables, function, all, instruction)? {
+    if !names_known(alloc, tree, facts, function, scope, instruction)? {
         return Ok(Some(CheckCause::UnknownName));
     }
-    if !types_fit(alloc, tree, &facts.tables, function, all, instruction)? {
+    if !types_fit(alloc, tree, facts, function, scope, instruction)? {
         return Ok(Some(CheckCause::TypeDiffers));
     }
     if standing.lack || !terminates(instruction, standing.last) {
@@ -76,7 +76,7 @@ pub fn spot_cause(
     if !alloca_fits(standing.entry, instruction) {
         return Ok(Some(CheckCause::AllocaPlace));
     }
-    if !call_allowed(tree, instruction) {
+    if !call_allowed(tree, facts, instruction) {
         return Ok(Some(CheckCause::External));
     }
     Ok(None)

@@ -3,20 +3,19 @@ ghost use Rattle.std.specs.Prelude.{◌≡◌, ◌+◌, ◌&&◌, not, true, map
 ghost use Rattle.ir_tree.specs.Naming.{name_at};
 ghost use Rattle.ir_tree.specs.Shown.{shown, shown_block, shown_function, shown_global};
 ghost use Rattle.ir_rules.specs.Seen.{seen};
-ghost use Rattle.ir_rules.specs.Defining.{defined};
 ghost use Rattle.ir_rules.specs.Forms.{is_phi};
 ghost use Rattle.ir_rules.specs.Faults.{first_fault};
 ghost use Rattle.ir_rules.specs.Heads.{AreTables};
 ghost use Rattle.ir_checker.specs.Facts.{AreFacts};
+ghost use Rattle.ir_checker.specs.Scopes.{IsScope};
 ghost use Rattle.ir_checker.specs.Finding.{lack_cause, found_at, block_fault, blocks_fault, function_fault, fault_in, functions_fault, fault_of_global, globals_fault, fault_of_whole, whole_cause};
 
 use crate::causes::{Standing, global_cause, spot_cause, whole_cause};
 use crate::facts::{Facts, find_facts};
 use crate::found::Found;
-use ir_rules::defining::defined;
+use crate::scope::{Scope, find_scope};
 use ir_rules::fault::{CheckCause, CheckError, CheckSite};
 use ir_rules::forms::is_phi;
-use ir_rules::given::Defined;
 use ir_rules::tables::Tables;
 use ir_tree::instruction::Instruction;
 use ir_tree::items::{Block, Function, Global as Variable};
@@ -56,12 +55,12 @@ fn block_fault(
     tree: &Module,
     facts: &Facts,
     function: &Function,
-    all: &[Defined],
+    scope: &Scope,
     opening: Opening,
     block: &Block,
 ) -> Result<Option<Found>, Memory>
     requires facts { AreFacts tree.now facts.now }
-    requires all { all.now ≡ defined function.now }
+    requires scope { IsScope tree.now.names facts.now.index.zero function.now scope.now }
     ensures { IfOk result (λ r. r ≡ block_fault (seen tree.now) (shown_function tree.now.names function.now) (name_at tree.now.names block.now.label) opening.entry true opening.lack opening.place (map (shown tree.now.names) block.now.instructions)) }
 {
     let instructions = block.instructions.as_slice();
@@ -76,7 +75,7 @@ fn block_fault(
             last: i + 1 == instructions.len(),
             lack,
         };
-        let cause = spot_cause(alloc, tree, facts, function, all, standing, instruction)?;
+        let cause = spot_cause(alloc, tree, facts, function, scope, standing, instruction)?;
         match cause {
             Some(cause) => {
                 let place = further(opening.place, i)?;
@@ -109,12 +108,12 @@ fn blocks_fault(
     tree: &Module,
     facts: &Facts,
     function: &Function,
-    all: &[Defined],
+    scope: &Scope,
     lack: bool,
     blocks: &[Block],
 ) -> Result<Option<Found>, Memory>
     requires facts { AreFacts tree.now facts.now }
-    requires all { all.now ≡ defined function.now }
+    requires scope { IsScope tree.now.names facts.now.index.zero function.now scope.now }
     ensures { IfOk result (λ r. r ≡ blocks_fault (seen tree.now) (shown_function tree.now.names function.now) true lack 0 (map (shown_block tree.now.names) blocks.now)) }
 {
     let mut opening = Opening {
@@ -123,7 +122,7 @@ fn blocks_fault(
         place: 0,
     };
     for block in blocks {
-        let found = block_fault(alloc, tree, facts, function, all, opening, block)?;
+        let found = block_fault(alloc, tree, facts, function, scope, opening, block)?;
         if found.is_some() {
             return Ok(found);
         }
@@ -146,10 +145,10 @@ fn function_fault(
     requires { AreFacts tree.now facts.now }
     ensures { IfOk result (λ r. r ≡ function_fault (seen tree.now) (shown_function tree.now.names function.now)) }
 {
-    let all = defined(alloc, function)?;
+    let scope = find_scope(alloc, tree.names(), facts.index.zero, function)?;
     let blocks = function.blocks.as_slice();
     let lack = !function.declared && blocks.len() == 0;
-    blocks_fault(alloc, tree, facts, function, all.as_slice(), lack, blocks)
+    blocks_fault(alloc, tree, facts, function, &scope, lack, blocks)
 }
 
 /// The fault of a function by its number.

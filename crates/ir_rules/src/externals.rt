@@ -199,7 +199,8 @@ fn may_call(
     }
 }
 
-fn declared_allowed(names: &Names, function: &Function, arguments: &[Argument]) -> bool
+/// Whether a call of a declared function is one of the external that it is.
+pub fn declared_allowed(names: &Names, function: &Function, arguments: &[Argument]) -> bool
     ensures { result ≡ may_call (shown_function names.now function.now) (external_of (name_at names.now function.now.name)) (map (shown_argument names.now) arguments.now) }
 {
     let external = external_of(name(names, function.name));

@@ -26,7 +26,7 @@ use pv_base::want::Memory;
 use std::alloc::Global;
 
 /// The types of parameters.
-fn param_types(alloc: Global, params: &[Param]) -> Result<List<TypeId>, Memory>
+pub fn param_types(alloc: Global, params: &[Param]) -> Result<List<TypeId>, Memory>
     ensures { IfOk result (λ l. l ≡ map (λ p. p.of) params.now) }
 {
     let mut types = List::new(alloc);
@@ -72,7 +72,7 @@ fn written_form(names: &Names, params: &[TypeId]) -> bool
 
 /// Whether a call is of a function's type.
 #[tactic(auto, using(crate::proofs::CallLemmas::param_types_shown))]
-fn call_fits(
+pub fn call_fits(
     names: &Names,
     classes: &[usize],
     function: &Function,
@@ -166,8 +166,9 @@ fn indices(
     Ok(numbers)
 }
 
+/// Whether the indices of an address lead into a type that has such parts.
 #[tactic(auto, using(crate::proofs::CallLemmas::indices_shown))]
-fn address_fits(
+pub fn address_fits(
     alloc: Global,
     tree: &Module,
     of: TypeId,

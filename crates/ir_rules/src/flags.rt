@@ -93,7 +93,8 @@ pub fn is_global(tree: &Module, name: NameId) -> bool
         || is_function(tree.names(), tree.functions(), name)
 }
 
-fn all_flags(flags: &[bool], elements: &[Element]) -> bool
+/// Whether each element has its flag.
+pub fn all_flags(flags: &[bool], elements: &[Element]) -> bool
     ensures { result ≡ list_all (λ e. flag_at flags.now e.value) elements.now }
 {
     elements.iter().all(|e| flag_at(flags, e.value))

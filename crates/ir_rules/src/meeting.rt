@@ -100,7 +100,8 @@ fn uses_fit(
     })
 }
 
-fn are_integers(names: &Names, types: &[TypeId]) -> bool
+/// Whether each type is one of integers.
+pub fn are_integers(names: &Names, types: &[TypeId]) -> bool
     ensures { result ≡ list_all (λ k. is_integer (type_at names.now k)) types.now }
 {
     types.iter().all(|k| is_integer(names, *k))

@@ -26,7 +26,7 @@ use ir_tree::whole::Module;
 
 /// Whether two types are the same, as instructions give them.
 #[tactic(auto, using(crate::proofs::GivenLemmas::pointer_left, crate::proofs::GivenLemmas::pointer_right, crate::proofs::GivenLemmas::width_left, crate::proofs::GivenLemmas::width_right))]
-fn same_given(names: &Names, classes: &[usize], a: Given, b: Given) -> bool
+pub fn same_given(names: &Names, classes: &[usize], a: Given, b: Given) -> bool
     requires { AreClasses names.now classes.now }
     ensures { result ≡ same_type (given_type (shown_given names.now a)) (given_type (shown_given names.now b)) }
 {
