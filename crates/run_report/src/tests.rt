@@ -1,5 +1,7 @@
-//! The spellings of bytes.
+//! The spellings of bytes, and the lines of refused texts.
 use crate::bytes::put_bytes;
+use crate::refusals::refused_module;
+use ir_lex::token::{Cause, ReadError};
 use mem_image::object::{Byte, Pointer};
 use pv_base::bytes::Bytes;
 use pv_base::want::Memory;
@@ -77,5 +79,27 @@ fn pointers_among_others(rt: HostRuntime) -> Result<(), Fail> {
     bytes.extend_from_slice(parts(alloc, other, 4, 8)?.as_slice())?;
     let wanted = "<1+4.0><1+4.1><1+4.2><1+4.3><1+5.4><1+5.5><1+5.6><1+5.7>";
     assert_eq!(rt; spelled(alloc, bytes.as_slice())?.as_str(), wanted);
+    Ok(())
+}
+
+fn refusal(alloc: Global, line: u32, cause: Cause) -> Result<String, Fail> {
+    let error = ReadError { line, cause };
+    let text = refused_module(alloc, &error)?;
+    Ok(String::from_utf8_lossy(alloc, text.as_slice())?)
+}
+
+#[test]
+fn refused_texts(rt: HostRuntime) -> Result<(), Fail> {
+    let alloc = rt.alloc();
+    let word = Bytes::from_slice(alloc, b"ptrtoint")?;
+    let line = refusal(alloc, 8, Cause::OutOfProfile(word))?;
+    assert_eq!(rt;
+        line.as_str(),
+        "refused module line 8 out-of-profile ptrtoint\n"
+    );
+    let line = refusal(alloc, 2, Cause::End)?;
+    assert_eq!(rt; line.as_str(), "refused module line 2 end\n");
+    let line = refusal(alloc, 1, Cause::BadType)?;
+    assert_eq!(rt; line.as_str(), "refused module line 1 bad-type\n");
     Ok(())
 }
