@@ -21,7 +21,9 @@ use Rattle.ir_instr.specs.Control.{bits_of, met_before, case_value_at, case_at}
 use Rattle.ir_text.proofs.Choices.{token_laws}
 use Rattle.ir_text.proofs.Persisting.{shortens}
 use Rattle.ir_text.proofs.Agreeing.{Shortens, keeps}
-use Rattle.ir_text.proofs.OperandLaws.{constant_laws, constant_opens, operand_laws}
+use Rattle.ir_text.proofs.ConstantFuel.{constant_laws}
+use Rattle.ir_text.proofs.ConstantLaws.{constant_opens}
+use Rattle.ir_text.proofs.OperandLaws.{operand_laws}
 
 -- fewer than so many are left
 abbrev pub Less : {A : Type 0} → ℕ → Outcome A → Type 0
@@ -93,7 +95,7 @@ module _ (known : Known) where
   constant_takes w c ws s = let o = constant_opens known w c ws s in omega (arith, ap length o.parts)
 
   pub constant_less : (w n : ℕ) (ts : List TokenV) → length ts ≤ n → Less n (constant_at known w ts)
-  constant_less w n ts few = less_of n (constant_at known w) ts (shortens 0 anything (constant_at known w) (a_constant known w) (constant_laws 0 known w) (constant_takes w)) few
+  constant_less w n ts few = less_of n (constant_at known w) ts (shortens 0 anything (constant_at known w) (a_constant known w) (constant_laws known 0 w) (constant_takes w)) few
 
   pub operand_less : (type : TypeV) (n : ℕ) (ts : List TokenV) → length ts ≤ n → Less n (operand_at known type ts)
   operand_less type n ts few =
