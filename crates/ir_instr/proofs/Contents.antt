@@ -1,6 +1,6 @@
 -- What indices go into.
-use Rattle.std.proofs.Common.{◌≡◌, ℕ, suc, ◌<◌, ◌≤◌, length, arith, Bool, true, false, cond, List, [], ◌∷◌, Option, Some, None, slice_get, get_or, All, Result, Ok, Err, refl, sym, ap, subst, ◌∙◌, zero}
-use Rattle.std.specs.Prelude.{IfSome, is_some, option_map, option_and_then, nat_eq, if◌then◌else◌}
+use Rattle.std.proofs.Common.{◌≡◌, ℕ, suc, ◌<◌, length, arith, List, [], ◌∷◌, Option, Some, None, slice_get, get_or, refl, sym, ap, ◌∙◌, zero}
+use Rattle.std.specs.Prelude.{IfSome, option_map, option_and_then}
 use Rattle.std.proofs.lemmas.Option.{slice_get-get_or, slice_get_within}
 use Rattle.pv_base.specs.declared.name.Name.{Name}
 use Rattle.ir_tree.specs.declared.nodes.TypeNode.{TypeNode}
@@ -11,14 +11,14 @@ use Rattle.ir_tree.specs.Table.{Table, IsTable, TypeWithin}
 use Rattle.ir_tree.specs.Trees.{TypeV, ConstantV, NullC}
 use Rattle.ir_tree.specs.Layouts.{field_type}
 use Rattle.ir_tree.specs.Naming.{Grows, name_at, type_at, types_by, constant_at, constant_of_node}
-use Rattle.ir_tree.proofs.Showing.{meaning_from, type_within_more}
+use Rattle.ir_tree.proofs.Showing.{meaning_from}
 use Rattle.ir_text.specs.declared.named.NamedBody.{NamedBody}
 use Rattle.ir_text.specs.Named.{body_in, body_of, known_of}
 use Rattle.ir_text.specs.Types.{Body}
 use Rattle.ir_text.proofs.LaidOut.{name_kept, type_by}
 use Rattle.ir_instr.specs.Addresses.{opened, constant_field}
 use Rattle.ir_instr.specs.Defined.{AreTypes}
-use Rattle.ir_instr.specs.Placing.{fields_of, node_content, node_opened, IsContent, ContentWithin, node_field}
+use Rattle.ir_instr.specs.Placing.{node_content, node_opened, IsContent, ContentWithin, node_field}
 
 -- ---- nodes
 

@@ -1,6 +1,6 @@
 -- The value of an index that names a field.
-use Rattle.std.proofs.Common.{◌≡◌, ℕ, ◌<◌, length, Bool, true, false, cond, List, [], ◌∷◌, drop, Option, Some, None, slice_get, All, Result, Ok, Err, refl, sym, ap, subst, ◌∙◌, get_or, arith}
-use Rattle.std.specs.Prelude.{option_map, option_and_then, is_some}
+use Rattle.std.proofs.Common.{◌≡◌, ℕ, ◌<◌, length, true, false, List, [], ◌∷◌, Option, Some, None, slice_get, Ok, Err, refl, sym, ap, ◌∙◌, get_or, arith}
+use Rattle.std.specs.Prelude.{option_map}
 use Rattle.std.proofs.lemmas.Option.{slice_get_within, get_or_from_slice_get}
 use Rattle.pv_base.specs.declared.name.Name.{Name}
 use Rattle.ir_lex.specs.declared.token.TokenKind.{TokenKind}
@@ -10,7 +10,7 @@ use Rattle.ir_tree.specs.declared.instruction.Operand.{Operand}
 use Rattle.ir_tree.specs.declared.instruction.Operand.TheVariants as operand
 use Rattle.ir_tree.specs.declared.nodes.TypeNode.{TypeNode}
 use Rattle.ir_tree.specs.declared.nodes.TypeNode.TheVariants as node
-use Rattle.ir_tree.specs.Table.{Table, IsTable, TypeWithin}
+use Rattle.ir_tree.specs.Table.{Table, IsTable}
 use Rattle.ir_tree.specs.Trees.{TypeV, TypesV, IntV, ConstantV}
 use Rattle.ir_tree.specs.Layouts.{field_type}
 use Rattle.ir_tree.specs.Naming.{Grows, type_at, types_at}

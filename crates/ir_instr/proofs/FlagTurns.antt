@@ -1,5 +1,5 @@
 -- Words that are read one after the other, a turn of the loop further.
-use Rattle.std.proofs.Common.{◌≡◌, ℕ, ◌+◌, ◌≤◌, length, arith, Bool, true, false, cond, List, [], ◌∷◌, ◌++◌, drop, map, Bor, Result, Ok, Err, refl, sym, ap, subst, ◌∙◌}
+use Rattle.std.proofs.Common.{◌≡◌, ℕ, Bool, true, false, cond, List, [], ◌∷◌, ◌++◌, drop, map, Bor, Ok, Err, refl, sym, ap, ◌∙◌}
 use Rattle.std.specs.Prelude.{◌||◌}
 use Rattle.std.specs.List.{list_any}
 use Rattle.int_num.specs.declared.ops.Flags.{Flags}
@@ -10,7 +10,7 @@ use Rattle.ir_text.specs.Reading.{Outcome, ◌>>=◌, next_is, token_by}
 use Rattle.ir_text.specs.Repeated.{stays}
 use Rattle.ir_text.proofs.RepeatedLaws.{repeated_is}
 use Rattle.ir_instr.specs.Words.{is_among}
-use Rattle.ir_instr.specs.Flags.{one_of, words_of, flags_of, flags_at}
+use Rattle.ir_instr.specs.Flags.{one_of, words_of, flags_of}
 use Rattle.ir_instr.specs.Noting.{noted, Says}
 use Rattle.ir_instr.proofs.Shrinking.{shortens_by, token_less}
 

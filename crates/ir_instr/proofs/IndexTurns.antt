@@ -1,5 +1,5 @@
 -- The indices of an address take tokens.
-use Rattle.std.proofs.Common.{◌≡◌, ℕ, ◌+◌, ◌≤◌, length, arith, Bool, true, false, cond, List, [], ◌∷◌, Option, Some, None, Ok, Err, refl, sym, ap, ◌∙◌}
+use Rattle.std.proofs.Common.{ℕ, ◌+◌, ◌≤◌, length, arith, Bool, true, false, cond, List, [], ◌∷◌, Option, Some, None, Ok}
 use Rattle.std.specs.Prelude.{is_some}
 use Rattle.pv_base.specs.declared.name.Name.{Name}
 use Rattle.ir_lex.specs.declared.token.Cause.TheVariants as causes
@@ -8,7 +8,7 @@ use Rattle.ir_tree.specs.declared.instruction.Argument.{Argument}
 use Rattle.ir_tree.specs.Trees.{TypeV, IntV, PtrV, VoidV, ArrayV, StructV, NamedV, TypesV, ConstantV}
 use Rattle.ir_tree.specs.Layouts.{field_type}
 use Rattle.ir_text.specs.Tokens.{TokenV}
-use Rattle.ir_text.specs.Reading.{Outcome, ◌>>=◌, next_is, token_by, wrong}
+use Rattle.ir_text.specs.Reading.{Outcome, next_is, wrong}
 use Rattle.ir_text.specs.Leaves.{mark_at}
 use Rattle.ir_text.specs.Tails.{tail_at}
 use Rattle.ir_text.specs.Trailing.{passed_tail}
@@ -21,7 +21,7 @@ use Rattle.ir_instr.specs.Addresses.{Into, Whole, Inside, Faulty, opened, field_
 use Rattle.ir_instr.proofs.Shrinking.{Less, then_less, choose_less, still_less, shortens_by, token_less, operand_less, tail_keeps}
 
 module _ (known : Known) where
-  integer_less : (n : ℕ) (ts : List TokenV) → length ts ≤ n → Less n (integer_argument_at known ts)
+  pub integer_less : (n : ℕ) (ts : List TokenV) → length ts ≤ n → Less n (integer_argument_at known ts)
   integer_less n ts few =
       then_less n _ _ (token_less _ n ts few) (λ a la.
       then_less n _ _ (operand_less known a.0 n a.1 (omega arith)) (λ b lb. lb))
@@ -53,7 +53,7 @@ module _ (known : Known) where
   into_less (Some VoidV) n ts few = token_less no_index n ts few
   into_less (Some (NamedV name)) n ts few = token_less no_index n ts few
 
-  index_less : (into : Into) (n : ℕ) (ts : List TokenV) → length ts ≤ n → Less n (index_at known into ts)
+  pub index_less : (into : Into) (n : ℕ) (ts : List TokenV) → length ts ≤ n → Less n (index_at known into ts)
   index_less (Whole of) n ts few = integer_less n ts few
   index_less (Inside of) n ts few = into_less (opened known of) n ts few
   index_less Faulty n ts few = integer_less n ts few

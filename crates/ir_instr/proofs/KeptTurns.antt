@@ -1,5 +1,5 @@
 -- Items of which some are kept, a turn of the loop further.
-use Rattle.std.proofs.Common.{◌≡◌, ℕ, ◌+◌, ◌≤◌, length, Bool, true, false, cond, List, [], ◌∷◌, ◌++◌, Option, Some, None, Result, Ok, Err, refl, sym, ap, subst, ◌∙◌}
+use Rattle.std.proofs.Common.{◌≡◌, Bool, true, false, List, [], ◌∷◌, ◌++◌, Option, Some, None, Ok, Err, refl, sym, ap, ◌∙◌}
 use Rattle.ir_text.specs.declared.fault.ReadEnd.{ReadEnd}
 use Rattle.ir_text.specs.declared.fault.ReadEnd.TheVariants as ends
 use Rattle.ir_text.specs.Tokens.{TokenV}

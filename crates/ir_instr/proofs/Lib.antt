@@ -8,3 +8,6 @@ pub mod ArgumentTurns
 pub mod Contents
 pub mod FieldTurns
 pub mod IndexTurns
+pub mod Openings
+pub mod Defining
+pub mod Consuming

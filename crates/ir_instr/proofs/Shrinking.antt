@@ -1,7 +1,5 @@
 -- What is read is taken: fewer tokens are left.
-use Rattle.std.proofs.Common.{◌≡◌, ℕ, ◌+◌, ◌≤◌, length, arith, Bool, true, false, cond, List, [], ◌∷◌, Option, None, Result, Ok, Err, refl, sym, ap, subst, ◌∙◌, ◌⊎◌, inl, inr}
-use Rattle.pv_base.specs.declared.name.Name.{Name}
-use Rattle.ir_tree.specs.declared.instruction.Operand.{Operand}
+use Rattle.std.proofs.Common.{◌≡◌, ℕ, ◌+◌, ◌≤◌, length, arith, Bool, true, false, cond, List, [], ◌∷◌, Option, None, Ok, Err, refl, ap, subst}
 use Rattle.ir_tree.specs.Trees.{TypeV, ConstantV}
 use Rattle.ir_text.specs.Tokens.{TokenV}
 use Rattle.ir_text.specs.Reading.{Outcome, Reader, ◌>>=◌, Meaning, token_by, wrong}
@@ -13,7 +11,7 @@ use Rattle.ir_text.specs.Constants.{width_of}
 use Rattle.ir_text.specs.Leaves.{mark_at}
 use Rattle.ir_text.specs.Tails.{tail_at, a_tail, tails_at, some_tails}
 use Rattle.ir_text.specs.Trailing.{trailing_item, comma_item}
-use Rattle.ir_text.specs.Operands.{constant_at, a_constant, operand_at, an_operand}
+use Rattle.ir_text.specs.Operands.{constant_at, a_constant, operand_at}
 use Rattle.ir_text.proofs.TailLaws.{tail_laws, tails_laws}
 use Rattle.ir_instr.specs.Parts.{target_at}
 use Rattle.ir_instr.specs.Selecting.{arm_at}
@@ -23,7 +21,6 @@ use Rattle.ir_text.proofs.Persisting.{shortens}
 use Rattle.ir_text.proofs.Agreeing.{Shortens, keeps}
 use Rattle.ir_text.proofs.ConstantFuel.{constant_laws}
 use Rattle.ir_text.proofs.ConstantLaws.{constant_opens}
-use Rattle.ir_text.proofs.OperandLaws.{operand_laws}
 
 -- fewer than so many are left
 abbrev pub Less : {A : Type 0} → ℕ → Outcome A → Type 0

@@ -18,3 +18,4 @@ pub mod Noting
 pub mod Gathering
 pub mod Switching
 pub mod Placing
+pub mod Dispatch

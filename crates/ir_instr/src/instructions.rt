@@ -1,6 +1,6 @@
 //! The instructions of a function, by their first words.
 
-ghost use Rattle.std.specs.Prelude.{◌≡◌, ◌<◌, false, length, map, IfOk, OnOk, IfSome};
+ghost use Rattle.std.specs.Prelude.{◌<◌, length, map, IfOk, OnOk, IfSome};
 ghost use Rattle.ir_tree.specs.Table.{Table};
 ghost use Rattle.ir_tree.specs.Naming.{Grows, name_at};
 ghost use Rattle.ir_tree.specs.Shown.{shown};
@@ -12,12 +12,39 @@ ghost use Rattle.ir_instr.specs.Results.{result_of};
 ghost use Rattle.ir_instr.specs.Instructions as spec;
 
 use crate::defined::Defined;
+use crate::forms::{effect, resulting};
+use crate::naming::result_name;
 use ir_text::cursor::Cursor;
 use ir_text::fault::ReadEnd;
 use ir_text::layouts::TypeLayouts;
+use ir_text::leaves::mark;
 use ir_text::named::NamedTypes;
+use ir_text::operands::sees_local;
 use ir_tree::instruction::Instruction;
 use ir_tree::table::Names;
+
+/// Reads `%r =` and an instruction.
+fn assignment(
+    cursor: &mut Cursor<'_>,
+    names: &mut Names,
+    known: &NamedTypes,
+    layouts: &mut TypeLayouts,
+    next: u64,
+    defined: &Defined,
+) -> Result<Instruction, ReadEnd>
+    requires names { AreNames names.old defined.now }
+    requires types { AreTypes names.old known.now }
+    requires laid { AreLaid (layout_in known.now) names.old layouts.old }
+    ensures reads { (later : Table) → Grows names.new later → Reads (shown later) cursor.new result (spec.assignment_at (known_of later known.now) next (map (name_at later) defined.now) cursor.old) }
+    ensures result { IfOk result (λ i. IfSome (result_of i) (IsNew names.new defined.now)) }
+    ensures grows { Grows names.old names.new }
+    ensures laid { AreLaid (layout_in known.now) names.new layouts.new }
+{
+    names.is_table();
+    let to = result_name(cursor, names, next, defined)?;
+    mark(cursor, b'=')?;
+    resulting(cursor, names, known, layouts, to)
+}
 
 /// Reads an instruction, and what is passed over behind it. `known` are the named types of the whole text, `layouts` those of
 /// the types read so far or of some of them, `next` is the number that an unnamed value takes, and `defined` are the names that
@@ -39,5 +66,9 @@ pub fn instruction(
     ensures laid { AreLaid (layout_in known.now) names.new layouts.new }
     ensures shorter { OnOk result (length cursor.new < length cursor.old) }
 {
-    Err(ReadEnd::Memory)
+    if sees_local(cursor) {
+        return assignment(cursor, names, known, layouts, next, defined);
+    }
+    names.is_table();
+    effect(cursor, names, known)
 }

@@ -1,9 +1,11 @@
 //! The words that begin instructions, and what words stand for.
 
 ghost use Rattle.std.specs.Prelude.{◌≡◌};
+ghost use Rattle.ir_text.specs.Tokens.{among};
 ghost use Rattle.ir_instr.specs.Words as spec;
 
 use int_num::ops::{BinOp, CastOp, Pred};
+use ir_text::leaves::is_among;
 
 /// The operation on two integers of a word.
 #[tactic(auto, unfolding(crate::specs::Words::meaning_of))]
@@ -105,4 +107,53 @@ pub fn predicate(word: &[u8]) -> Option<Pred>
         return Some(Pred::Sle);
     }
     None
+}
+
+/// Whether a word begins an instruction.
+#[tactic(auto, using(ir_text::proofs::Among::any_among), unfolding(ir_text::specs::Tokens::among))]
+pub fn is_opcode(text: &[u8]) -> bool
+    ensures { result ≡ among spec.opcodes text.now }
+{
+    is_among(
+        &[
+            b"add",
+            b"sub",
+            b"mul",
+            b"udiv",
+            b"sdiv",
+            b"urem",
+            b"srem",
+            b"shl",
+            b"lshr",
+            b"ashr",
+            b"and",
+            b"or",
+            b"xor",
+            b"trunc",
+            b"zext",
+            b"sext",
+            b"freeze",
+            b"icmp",
+            b"select",
+            b"phi",
+            b"alloca",
+            b"load",
+            b"store",
+            b"getelementptr",
+            b"call",
+            b"ret",
+            b"br",
+            b"switch",
+            b"unreachable",
+        ],
+        text,
+    )
+}
+
+/// Whether a word begins an instruction without a result.
+#[tactic(auto, using(ir_text::proofs::Among::any_among), unfolding(ir_text::specs::Tokens::among))]
+pub fn is_resultless(text: &[u8]) -> bool
+    ensures { result ≡ among spec.resultless text.now }
+{
+    is_among(&[b"store", b"ret", b"br", b"switch", b"unreachable"], text)
 }

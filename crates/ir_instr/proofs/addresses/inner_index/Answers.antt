@@ -1,4 +1,4 @@
-use Rattle.std.proofs.Common.{refl, sym, ◌∙◌}
+use Rattle.std.proofs.Common.{refl}
 use Rattle.std.proofs.lemmas.Result.{err_from_is_err_and}
 use Rattle.ir_tree.proofs.Showing.{grows_then, type_within_more}
 use Rattle.ir_instr.proofs.addresses.inner_index.Goals as goal

@@ -1,4 +1,4 @@
-use Rattle.std.proofs.Common.{◌≡◌, length, map}
+use Rattle.std.proofs.Common.{length, map}
 use Rattle.ir_instr.proofs.FlagTurns.{SaidSo}
 use Rattle.ir_instr.proofs.flags.said.Given as goal
 
