@@ -1,5 +1,5 @@
 -- The lines that say why a module is refused, and the line of one that is accepted.
-use Rattle.std.specs.Prelude.{◌++◌, ◌+◌, not, ℕ, Bool, List, [], length, count_by, sum_by, codes, decimal}
+use Rattle.std.specs.Prelude.{◌++◌, not, ℕ, Bool, [], length, count_by, sum_by, codes, decimal}
 use Rattle.pv_base.specs.Outside.{Text}
 use Rattle.ir_lex.specs.declared.token.Cause.{Cause}
 use Rattle.ir_lex.specs.declared.token.Cause.TheVariants as cause

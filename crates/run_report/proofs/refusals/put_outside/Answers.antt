@@ -1,6 +1,5 @@
-use Rattle.std.proofs.Common.{◌≡◌, ◌++◌, ◌∙◌, codes, append_assoc, ap}
+use Rattle.std.proofs.Common.{◌≡◌, ◌++◌, ◌∙◌, codes, append_assoc}
 use Rattle.std.proofs.lemmas.Result.{on_ok_weaker}
-use Rattle.pv_base.specs.Outside.{Text}
 use Rattle.run_report.proofs.refusals.put_outside.Goals as goal
 
 pub returns : goal.returns
