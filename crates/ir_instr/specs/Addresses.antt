@@ -19,7 +19,8 @@ use Rattle.ir_text.specs.Leaves.{mark_at}
 use Rattle.ir_text.specs.Repeated.{repeated_under}
 use Rattle.ir_text.specs.Trailing.{passed_tail, kept}
 use Rattle.ir_text.specs.Types.{Known, register_type}
-use Rattle.ir_instr.specs.Parts.{fixed_type, memory_type_at, pointer_at, integer_argument_at}
+use Rattle.ir_text.specs.MemoryTypes.{memory_type_at}
+use Rattle.ir_instr.specs.Parts.{fixed_type, pointer_at, integer_argument_at}
 use Rattle.ir_instr.specs.Flags.{words_of}
 use Rattle.ir_instr.specs.Memory.{begins_tail}
 

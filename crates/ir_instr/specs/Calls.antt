@@ -98,9 +98,13 @@ abbrev pub answer_type : Option Name → Meaning TypeV
 answer_type (Some to) = register_type
 answer_type None = result_type
 
+-- operand bundles are outside the language
+abbrev pub bundle : Meaning (Unit {0})
+bundle t = Err (causes.OutOfProfile (codes "operand bundles"))
+
 -- no `[`, with which operand bundles begin
 abbrev pub unbundled : Reader (Unit {0})
-unbundled = choose (is_mark 91) (token_by (λ t. Err (causes.OutOfProfile (codes "operand bundles")))) (gives tt)
+unbundled = choose (is_mark 91) (token_by bundle) (gives tt)
 
 module _ (known : Known) where
   -- WORDS T @f(T A, ..) WORDS, with a written function type behind T

@@ -24,7 +24,8 @@ use Rattle.ir_text.specs.Tails.{some_tails}
 use Rattle.ir_text.specs.Types.{Known, register_type}
 use Rattle.ir_text.specs.TypeSpelled.{◌▸◌, a_mark, a_word, a_type}
 use Rattle.ir_instr.specs.Words.{worded, operations, casts, predicates, opcodes}
-use Rattle.ir_instr.specs.Parts.{fixed_type, integer_type, stored_type, has_layout}
+use Rattle.ir_text.specs.MemoryTypes.{has_layout}
+use Rattle.ir_instr.specs.Parts.{fixed_type, integer_type, stored_type}
 use Rattle.ir_instr.specs.Flags.{one_of, flags_of, flags_for, cast_flags_for}
 use Rattle.ir_instr.specs.Comparing.{comparing_words}
 use Rattle.ir_instr.specs.Addresses.{Into, Whole, Inside, Faulty, opened, field_of, next_into, address_words}

@@ -12,3 +12,8 @@ pub mod Control
 pub mod Instructions
 pub mod InstructionSpelled
 pub mod Scalars
+pub mod Defined
+pub mod Results
+pub mod Noting
+pub mod Gathering
+pub mod Switching

@@ -12,7 +12,8 @@ use Rattle.ir_text.specs.Choice.{choose}
 use Rattle.ir_text.specs.Leaves.{mark_at}
 use Rattle.ir_text.specs.Tails.{tail_at, tails_at}
 use Rattle.ir_text.specs.Types.{Known}
-use Rattle.ir_instr.specs.Parts.{stored_type, memory_type_at, pointer_at, integer_argument_at}
+use Rattle.ir_text.specs.MemoryTypes.{memory_type_at}
+use Rattle.ir_instr.specs.Parts.{stored_type, pointer_at, integer_argument_at}
 
 -- what begins one of the things that are passed over behind an instruction
 abbrev pub begins_tail : TokenV → Bool

@@ -1,5 +1,5 @@
 -- The parts of which instructions are made: operands and types. What a constant of a type is, is given.
-use Rattle.std.specs.Prelude.{Bool, true, false, nat_eq, if◌then◌else◌, [], ◌∷◌, Option, None, is_some, option_and_then, Result, Ok, Err, codes}
+use Rattle.std.specs.Prelude.{Bool, true, false, nat_eq, if◌then◌else◌, Option, None, is_some, Result, Ok, Err, codes}
 use Rattle.pv_base.specs.declared.name.Name.{Name}
 use Rattle.ir_lex.specs.declared.token.Cause.{Cause}
 use Rattle.ir_lex.specs.declared.token.Cause.TheVariants as causes
@@ -8,11 +8,10 @@ use Rattle.ir_tree.specs.declared.instruction.Argument.{Argument}
 use Rattle.ir_tree.specs.declared.layout.Layout.{Layout}
 use Rattle.ir_tree.specs.Layouts.{layout_with}
 use Rattle.ir_tree.specs.Trees.{TypeV, IntV, PtrV, ConstantV}
-use Rattle.ir_text.specs.declared.fault.Fault.TheVariants.{Ended}
 use Rattle.ir_text.specs.Operands.{operand_at}
-use Rattle.ir_text.specs.Reading.{Reader, ◌>>=◌, wrong, Meaning, token_by}
+use Rattle.ir_text.specs.Reading.{Reader, ◌>>=◌, Meaning, token_by}
 use Rattle.ir_text.specs.Leaves.{word_at, local_at}
-use Rattle.ir_text.specs.Types.{Known, register_type, type_at}
+use Rattle.ir_text.specs.Types.{Known, register_type}
 
 -- ---- types of one token
 
@@ -50,20 +49,6 @@ with_layout (Err cause) = Err cause
 -- the type of a register that memory can hold
 abbrev pub stored_type : Meaning TypeV
 stored_type t = with_layout (register_type t)
-
--- ---- types in memory
-
--- the layouts of the named types of the whole text
-abbrev pub named_layouts : Known → Name → Option Layout
-named_layouts known name = option_and_then (λ b. b.layout) (known name)
-
-abbrev pub has_layout : Known → TypeV → Bool
-has_layout known of = is_some (layout_with (named_layouts known) of)
-
--- a type with a layout, which is else missed at the first token
-unfoldable pub memory_type_at : Known → Reader TypeV
-memory_type_at known [] = Err Ended
-memory_type_at known (t ∷ rest) = type_at known (t ∷ rest) >>= λ x. if has_layout known x.0 then Ok x else wrong t causes.Layout
 
 -- ---- operands
 

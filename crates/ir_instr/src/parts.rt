@@ -214,3 +214,19 @@ pub fn typed_operand(
     let of = number(names, of)?;
     operand(cursor, names, known, of)
 }
+
+/// Reads an integer with its type: `iN A`.
+#[tactic(auto, using(ir_text::proofs::Later::later))]
+pub fn integer_argument(
+    cursor: &mut Cursor<'_>,
+    names: &mut Names,
+    known: &NamedTypes,
+) -> Result<Argument, ReadEnd>
+    ensures reads { (later : Table) → Grows names.new later → Reads (shown_argument later) cursor.new result (spec.integer_argument_at (known_of later known.now) cursor.old) }
+    ensures grows { Grows names.old names.new }
+{
+    let scalar = integer_type(cursor)?;
+    let value = typed_operand(cursor, names, known, scalar)?;
+    let of = number(names, scalar)?;
+    Ok(Argument { of, value })
+}

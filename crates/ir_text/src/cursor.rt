@@ -143,6 +143,19 @@ impl<'a> Cursor<'a> {
         }
     }
 
+    /// The token behind the next one, where there are two; both stay.
+    pub fn peek_second(&self) -> Option<Lexeme<'a>>
+        ensures { MatchOption result (length self.now < 2) (λ l. drop 1 self.now ≡ l ∷ drop 2 self.now) }
+    {
+        match self.tokens {
+            [_, token, ..] => Some(Lexeme {
+                text: self.text,
+                token: *token,
+            }),
+            _ => None,
+        }
+    }
+
     /// Goes past the next token.
     pub fn skip(&mut self)
         requires { 0 < length self.old }
