@@ -93,8 +93,11 @@ pub fn quoted_len(text: &[u8]) -> usize
     ensures value { result ≡ spec.quoted_len text.now }
     ensures bound { result ≤ length text.now }
 {
+    if byte_at(text, 0) != b'"' {
+        return 0;
+    }
     let n = string_run(behind(text));
-    if byte_at(text, 0) == b'"' && byte_at(text, n + 1) == b'"' {
+    if byte_at(text, n + 1) == b'"' {
         n + 2
     } else {
         0

@@ -22,6 +22,11 @@ pub mod NestedSteps
 pub mod NestedTurns
 pub mod Widths
 pub mod OperandLaws
+pub mod ConstantLaws
+pub mod ConstantFuel
+pub mod ConstantSteps
+pub mod ConstantTurns
 pub mod LaidOut
 pub mod MemoryTypeLaws
 pub mod Bodies
+pub mod MemoryLaws

@@ -14,28 +14,13 @@ use Rattle.ir_text.specs.Spelled.{Spelling, InTurn, one_token, nothing}
 use Rattle.ir_text.specs.Lawful.{anything, Lawful}
 use Rattle.ir_text.specs.Choice.{Opens}
 use Rattle.ir_text.specs.Types.{Known, register_type}
-use Rattle.ir_text.specs.Constants.{width_of, simple_constant, simple_by}
+use Rattle.ir_text.specs.Constants.{width_of}
 use Rattle.ir_text.specs.Operands.{constant_at, a_constant, is_local, kind_is_local, register, register_by, operand_at, argument_at, constant_operand, an_operand, an_argument}
 use Rattle.ir_text.proofs.Laws.{nothing_laws}
 use Rattle.ir_text.proofs.Choices.{in_turn, token_laws}
+use Rattle.ir_text.proofs.ConstantLaws.{constant_opens}
+use Rattle.ir_text.proofs.ConstantFuel.{constant_laws}
 use Rattle.ir_text.proofs.ChoiceLaws.{choice, opens_more}
-
-pub constant_laws : (n : ℕ) (known : Known) (w : ℕ) → Lawful n anything (constant_at known w) (a_constant known w)
-unfolding constant_at a_constant
-constant_laws n known w = token_laws n (simple_constant w)
-
-not_local : (w : ℕ) (k : TokenKind) (t : TokenV) (c : ConstantV) → simple_by w k t ≡ Ok c → not (kind_is_local k) ≡ true
-not_local w kind.LocalName t c e = absurd cc
-not_local w kind.GlobalName t c e = refl
-not_local w kind.Label t c e = refl
-not_local w kind.Integer t c e = refl
-not_local w kind.Word t c e = refl
-not_local w kind.Text t c e = refl
-not_local w kind.Punct t c e = refl
-
-pub constant_opens : (known : Known) (w : ℕ) (c : ConstantV) (ws : List TokenV) → a_constant known w c ws → Opens (λ t. not (is_local t)) ws
-unfolding a_constant
-constant_opens known w c ws s = record { token = s.token; rest = []; parts = s.parts; is = not_local w s.token.kind s.token c s.is }
 
 register_local : (k : TokenKind) (t : TokenV) (o : Operand Name ConstantV) → register_by k t ≡ Ok o → kind_is_local k ≡ true
 register_local kind.LocalName t o e = refl
@@ -55,7 +40,7 @@ not_true false e = refl
 
 module _ (n : ℕ) (known : Known) where
   constant_operand_laws : (type : TypeV) → Lawful n anything (λ ts. constant_at known (width_of type) ts >>= λ c. Ok (operand.Constant c.0, c.1)) (constant_operand known type)
-  constant_operand_laws type = in_turn n anything (constant_at known (width_of type)) (λ c ts. Ok (operand.Constant c, ts)) _ (λ c. nothing (operand.Constant c)) (constant_laws n known (width_of type)) (λ c. nothing_laws n anything (operand.Constant c))
+  constant_operand_laws type = in_turn n anything (constant_at known (width_of type)) (λ c ts. Ok (operand.Constant c, ts)) _ (λ c. nothing (operand.Constant c)) (constant_laws known n (width_of type)) (λ c. nothing_laws n anything (operand.Constant c))
 
   not_register : (type : TypeV) (o : Operand Name ConstantV) (ws rest : List TokenV) → constant_operand known type o ws → anything rest → next_is is_local (ws ++ rest) ≡ false
   unfolding next_is

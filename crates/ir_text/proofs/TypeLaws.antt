@@ -44,22 +44,27 @@ simple_mark known b kind.Integer t type e = refl
 simple_mark known b kind.Word t type e = refl
 simple_mark known b kind.Text t type e = refl
 
-simple_opens : (known : Known) (type : TypeV) (ws : List TokenV) → one_token (simple known) type ws → Opens (λ t. not (is_mark 125 t)) ws
-simple_opens known type ws s =
-    let no : is_mark 125 s.token ≡ false = simple_mark known 125 s.token.kind s.token type s.is in
+simple_opens : (known : Known) (close : ℕ) (type : TypeV) (ws : List TokenV) → one_token (simple known) type ws → Opens (λ t. not (is_mark close t)) ws
+simple_opens known close type ws s =
+    let no : is_mark close s.token ≡ false = simple_mark known close s.token.kind s.token type s.is in
     record { token = s.token; rest = []; parts = s.parts; is = rw no refl }
 
-marked_opens : (b : ℕ) (others : List TokenV → Type 0) (ws : List TokenV) → punct_is (125 ∷ []) kind.Punct (b ∷ []) ≡ false → Both (a_mark b) others ws → Opens (λ t. not (is_mark 125 t)) ws
-marked_opens b others ws other s = subst (λ (u : List TokenV). Opens (λ t. not (is_mark 125 t)) u) (sym s.parts) (mark_opens_not b 125 s.front s.rest other s.first_spells)
+marked_opens : (close b : ℕ) (others : List TokenV → Type 0) (ws : List TokenV) → punct_is (close ∷ []) kind.Punct (b ∷ []) ≡ false → Both (a_mark b) others ws → Opens (λ t. not (is_mark close t)) ws
+marked_opens close b others ws other s = subst (λ (u : List TokenV). Opens (λ t. not (is_mark close t)) u) (sym s.parts) (mark_opens_not b close s.front s.rest other s.first_spells)
+
+-- a mark that opens no type
+pub type_opens_but : (known : Known) (close : ℕ) → punct_is (close ∷ []) kind.Punct (91 ∷ []) ≡ false → punct_is (close ∷ []) kind.Punct (123 ∷ []) ≡ false → punct_is (close ∷ []) kind.Punct (60 ∷ []) ≡ false
+    → (type : TypeV) (ws : List TokenV) → a_type known type ws → Opens (λ t. not (is_mark close t)) ws
+type_opens_but known close a b c (IntV w) ws s = simple_opens known close (IntV w) ws s
+type_opens_but known close a b c PtrV ws s = simple_opens known close PtrV ws s
+type_opens_but known close a b c VoidV ws s = absurd s
+type_opens_but known close a b c (NamedV name) ws s = simple_opens known close (NamedV name) ws s
+type_opens_but known close a b c (ArrayV n of) ws s = marked_opens close 91 _ ws a s
+type_opens_but known close a b c (StructV false fields) ws s = marked_opens close 123 _ ws b s
+type_opens_but known close a b c (StructV true fields) ws s = marked_opens close 60 _ ws c s
 
 pub type_opens : (known : Known) (type : TypeV) (ws : List TokenV) → a_type known type ws → Opens (λ t. not (is_mark 125 t)) ws
-type_opens known (IntV w) ws s = simple_opens known (IntV w) ws s
-type_opens known PtrV ws s = simple_opens known PtrV ws s
-type_opens known VoidV ws s = absurd s
-type_opens known (NamedV name) ws s = simple_opens known (NamedV name) ws s
-type_opens known (ArrayV n of) ws s = marked_opens 91 _ ws refl s
-type_opens known (StructV false fields) ws s = marked_opens 123 _ ws refl s
-type_opens known (StructV true fields) ws s = marked_opens 60 _ ws refl s
+type_opens known type ws s = type_opens_but known 125 refl refl refl type ws s
 
 -- ---- fields
 

@@ -1,5 +1,5 @@
 -- The constants of the text, each at a type, after the LLVM Language Reference.
-use Rattle.std.specs.Prelude.{◌≡◌, ℕ, zero, suc, ◌-◌, ◌^◌, Bool, true, false, ◌&&◌, ◌==◌, not, nat_le, nat_lt, if◌then◌else◌, List, [], ◌∷◌, length, Option, Some, None, Result, Ok, Err, codes}
+use Rattle.std.specs.Prelude.{ℕ, ◌-◌, ◌^◌, ◌&&◌, ◌==◌, not, nat_le, nat_lt, if◌then◌else◌, List, Option, Some, None, Result, Ok, Err, codes}
 use Rattle.ir_lex.specs.declared.token.TokenKind.{TokenKind}
 use Rattle.ir_lex.specs.declared.token.TokenKind.TheVariants as kind
 use Rattle.ir_lex.specs.declared.token.Cause.{Cause}
@@ -11,7 +11,7 @@ use Rattle.ir_tree.specs.declared.nodes.TypeNode.{TypeNode}
 use Rattle.ir_tree.specs.declared.nodes.TypeNode.TheVariants as node
 use Rattle.ir_tree.specs.Trees.{TypeV, IntV, ConstantV, IntegerC, NullC, ZeroC, NameC}
 use Rattle.ir_text.specs.Tokens.{TokenV, same}
-use Rattle.ir_text.specs.Reading.{Reader, Meaning}
+use Rattle.ir_text.specs.Reading.{Meaning}
 use Rattle.ir_text.specs.Leaves.{spelled_name}
 
 -- the width of an integer written at a type: the type's own, and 64 where the type is no integer

@@ -1,12 +1,12 @@
 -- What single tokens stand for.
-use Rattle.std.specs.Prelude.{◌≡◌, ℕ, Bool, true, false, if◌then◌else◌, List, drop, Result, Ok, Err}
+use Rattle.std.specs.Prelude.{ℕ, Bool, true, false, List, Result, Ok, Err}
 use Rattle.ir_lex.specs.declared.token.TokenKind.{TokenKind}
 use Rattle.ir_lex.specs.declared.token.TokenKind.TheVariants as kind
 use Rattle.ir_lex.specs.declared.token.Cause.{Cause}
 use Rattle.ir_lex.specs.declared.token.Cause.TheVariants as causes
 use Rattle.ir_lex.specs.Spelling.{name_of, name_part, decoded, unquoted}
 use Rattle.pv_base.specs.declared.name.Name.{Name}
-use Rattle.ir_text.specs.Tokens.{TokenV, is_mark, is_points, is_word}
+use Rattle.ir_text.specs.Tokens.{TokenV, is_mark, is_word}
 use Rattle.ir_text.specs.Reading.{Reader, Meaning, token_by}
 
 -- a token that passes a test

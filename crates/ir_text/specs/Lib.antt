@@ -12,6 +12,9 @@ pub mod Named
 pub mod MemoryTypes
 pub mod Nested
 pub mod Constants
+pub mod NestedConstants
+pub mod ConstantSpelled
+pub mod OpenConstants
 pub mod Operands
 pub mod TypeSpelled
 pub mod Spelled

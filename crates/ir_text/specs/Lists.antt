@@ -1,8 +1,8 @@
 -- Items separated by commas.
-use Rattle.std.specs.Prelude.{◌≡◌, ℕ, Bool, true, false, if◌then◌else◌, List, [], ◌∷◌, ◌++◌, Ok}
+use Rattle.std.specs.Prelude.{ℕ, List, [], ◌∷◌, Ok}
 use Rattle.std.proofs.Common.{◌⊎◌}
-use Rattle.ir_text.specs.Tokens.{TokenV, is_mark}
-use Rattle.ir_text.specs.Reading.{Outcome, Reader, ◌>>=◌}
+use Rattle.ir_text.specs.Tokens.{is_mark}
+use Rattle.ir_text.specs.Reading.{Reader, ◌>>=◌}
 use Rattle.ir_text.specs.Spelled.{Spelling, InTurn, one_token, nothing}
 use Rattle.ir_text.specs.Choice.{choose}
 use Rattle.ir_text.specs.Leaves.{mark, mark_at}

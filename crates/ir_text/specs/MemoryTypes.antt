@@ -1,5 +1,5 @@
 -- The types of memory: those with a layout, among the named types of the whole text.
-use Rattle.std.specs.Prelude.{◌≡◌, ℕ, ◌<◌, ◌≤◌, Bool, length, if◌then◌else◌, List, [], ◌∷◌, Option, is_some, option_and_then, Ok, Err}
+use Rattle.std.specs.Prelude.{◌≡◌, ℕ, ◌<◌, ◌≤◌, Bool, true, length, if◌then◌else◌, List, [], ◌∷◌, Option, is_some, option_and_then, Ok, Err}
 use Rattle.pv_base.specs.declared.name.Name.{Name}
 use Rattle.ir_lex.specs.declared.token.Cause.TheVariants as causes
 use Rattle.ir_tree.specs.declared.layout.Layout.{Layout}
@@ -11,7 +11,9 @@ use Rattle.ir_tree.specs.Naming as naming
 use Rattle.ir_text.specs.declared.fault.Fault.TheVariants.{Ended}
 use Rattle.ir_text.specs.Tokens.{TokenV}
 use Rattle.ir_text.specs.Reading.{Reader, ◌>>=◌, wrong}
+use Rattle.ir_text.specs.Spelled.{Spelling}
 use Rattle.ir_text.specs.Types.{Body, Known, type_at}
+use Rattle.ir_text.specs.TypeSpelled.{a_type}
 
 -- the layouts of the named types of the whole text
 abbrev pub named_layouts : Known → Name → Option Layout
@@ -24,6 +26,10 @@ has_layout known of = is_some (layout_with (named_layouts known) of)
 unfoldable pub memory_type_at : Known → Reader TypeV
 memory_type_at known [] = Err Ended
 memory_type_at known (t ∷ rest) = type_at known (t ∷ rest) >>= λ x. if has_layout known x.0 then Ok x else wrong t causes.Layout
+
+-- how it is spelled: as a type
+abbrev pub a_memory_type : Known → Spelling TypeV
+a_memory_type known of ws = a_type known of ws × (has_layout known of ≡ true)
 
 -- ---- layouts by number
 

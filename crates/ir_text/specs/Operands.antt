@@ -16,14 +16,9 @@ use Rattle.ir_text.specs.Choice.{choose}
 use Rattle.ir_text.specs.Leaves.{spelled_name}
 use Rattle.ir_text.specs.Spelled.{Spelling, InTurn, one_token, nothing}
 use Rattle.ir_text.specs.Types.{Known, register_type}
-use Rattle.ir_text.specs.Constants.{width_of, simple_constant}
-
--- a constant at a width
-unfoldable pub constant_at : Known → ℕ → Reader ConstantV
-constant_at known w = token_by (simple_constant w)
-
-unfoldable pub a_constant : Known → ℕ → Spelling ConstantV
-a_constant known w = one_token (simple_constant w)
+use Rattle.ir_text.specs.Constants.{width_of}
+pub use Rattle.ir_text.specs.NestedConstants.{constant_at}
+pub use Rattle.ir_text.specs.ConstantSpelled.{a_constant}
 
 abbrev pub kind_is_local : TokenKind → Bool
 kind_is_local kind.LocalName = true

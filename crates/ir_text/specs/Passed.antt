@@ -1,17 +1,16 @@
 -- What is passed over.
-use Rattle.std.specs.Prelude.{◌≡◌, ℕ, suc, ◌-◌, ◌==◌, length, Bool, true, false, not, ◌&&◌, ◌||◌, nat_le, if◌then◌else◌, List, [], ◌∷◌, Result, Ok, Err, codes}
+use Rattle.std.specs.Prelude.{◌≡◌, ℕ, suc, ◌-◌, ◌==◌, length, Bool, true, false, not, ◌&&◌, ◌||◌, nat_le, if◌then◌else◌, List, [], ◌∷◌, Ok, Err, codes}
 use Rattle.std.specs.Bool.{MatchBool}
 use Rattle.std.specs.List.{prefix_len}
 use Rattle.ir_lex.specs.Classes.{is_digit}
 use Rattle.std.proofs.Common.{◌⊎◌}
 use Rattle.ir_lex.specs.declared.token.TokenKind.{TokenKind}
 use Rattle.ir_lex.specs.declared.token.TokenKind.TheVariants as kind
-use Rattle.ir_lex.specs.declared.token.Cause.{Cause}
 use Rattle.ir_lex.specs.declared.token.Cause.TheVariants as causes
-use Rattle.ir_text.specs.declared.fault.Fault.TheVariants.{At, Ended}
-use Rattle.ir_text.specs.Tokens.{TokenV, same, among, is_mark, is_word, is_refused}
-use Rattle.ir_text.specs.Reading.{Outcome, Reader, ◌>>=◌, Meaning, token_by, wrong}
-use Rattle.ir_text.specs.Leaves.{tested, mark, mark_at, word, string, string_at}
+use Rattle.ir_text.specs.declared.fault.Fault.TheVariants.{Ended}
+use Rattle.ir_text.specs.Tokens.{TokenV, same, among, is_mark, is_refused}
+use Rattle.ir_text.specs.Reading.{Reader, ◌>>=◌, Meaning, token_by, wrong}
+use Rattle.ir_text.specs.Leaves.{tested, mark, mark_at}
 use Rattle.ir_text.specs.Choice.{choose}
 use Rattle.ir_text.specs.Repeated.{repeated, each}
 use Rattle.ir_text.specs.Lawful.{Follow, Behind, anything}

@@ -1,7 +1,6 @@
 -- Reading from left to right: a value and the tokens behind it, or the first fault.
-use Rattle.std.specs.Prelude.{◌≡◌, ℕ, zero, suc, Bool, true, false, if◌then◌else◌, List, [], ◌∷◌, drop, Result, Ok, Err}
+use Rattle.std.specs.Prelude.{◌≡◌, ℕ, Bool, false, List, [], ◌∷◌, Result, Ok, Err}
 use Rattle.ir_lex.specs.declared.token.Cause.{Cause}
-use Rattle.ir_lex.specs.declared.token.Cause.TheVariants as causes
 use Rattle.ir_tree.specs.Table.{Table}
 use Rattle.ir_tree.specs.Naming.{Grows}
 use Rattle.ir_text.specs.declared.fault.Fault.{Fault}

@@ -1,11 +1,9 @@
 -- Readings as long as the next token passes a test, each under what those before it left.
-use Rattle.std.specs.Prelude.{◌≡◌, ℕ, zero, suc, Bool, not, if◌then◌else◌, List, [], ◌∷◌, ◌++◌, length, Ok, Err}
-use Rattle.ir_lex.specs.declared.token.Cause.TheVariants as causes
-use Rattle.ir_text.specs.Tokens.{TokenV, is_mark}
-use Rattle.ir_text.specs.Reading.{Reader, ◌>>=◌, gives, next_is}
+use Rattle.std.specs.Prelude.{◌≡◌, ℕ, zero, suc, Bool, List, [], ◌∷◌, ◌++◌, length, Ok}
+use Rattle.ir_text.specs.Tokens.{TokenV}
+use Rattle.ir_text.specs.Reading.{Reader, ◌>>=◌, gives}
 use Rattle.ir_text.specs.Choice.{choose}
-use Rattle.ir_text.specs.Leaves.{mark_at, mark}
-use Rattle.ir_text.specs.Spelled.{Spelling, one_token}
+use Rattle.ir_text.specs.Spelled.{Spelling}
 
 -- some tokens, and then others
 pub record Both (first others : List TokenV → Type 0) (ts : List TokenV) : Type 0 where

@@ -1,5 +1,5 @@
 -- Which tokens spell a value, whatever reads them.
-use Rattle.std.specs.Prelude.{◌≡◌, ℕ, Bool, true, false, List, [], ◌∷◌, ◌++◌, Ok}
+use Rattle.std.specs.Prelude.{◌≡◌, Bool, true, false, List, [], ◌∷◌, ◌++◌, Ok}
 use Rattle.std.proofs.Common.{◌⊎◌}
 use Rattle.ir_text.specs.Tokens.{TokenV}
 use Rattle.ir_text.specs.Reading.{Meaning}

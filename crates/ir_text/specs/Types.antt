@@ -1,5 +1,5 @@
 -- The types of the text, after the type system of the LLVM Language Reference.
-use Rattle.std.specs.Prelude.{◌≡◌, ℕ, zero, suc, Bool, true, false, ◌&&◌, ◌==◌, not, nat_le, if◌then◌else◌, List, [], ◌∷◌, length, drop, Option, Some, None, is_some, Result, Ok, Err, codes}
+use Rattle.std.specs.Prelude.{ℕ, zero, suc, true, false, ◌&&◌, ◌==◌, not, nat_le, if◌then◌else◌, List, [], ◌∷◌, length, drop, Option, is_some, Result, Ok, Err, codes}
 use Rattle.pv_base.specs.declared.name.Name.{Name}
 use Rattle.ir_lex.specs.declared.token.TokenKind.{TokenKind}
 use Rattle.ir_lex.specs.declared.token.TokenKind.TheVariants as kind
@@ -10,9 +10,9 @@ use Rattle.ir_lex.specs.Spelling.{number, integer_of}
 use Rattle.ir_tree.specs.declared.layout.Layout.{Layout}
 use Rattle.ir_tree.specs.Trees.{TypeV, IntV, PtrV, VoidV, ArrayV, StructV, NamedV}
 use Rattle.ir_tree.specs.Naming.{listed}
-use Rattle.ir_text.specs.declared.fault.Fault.TheVariants.{At, Ended}
+use Rattle.ir_text.specs.declared.fault.Fault.TheVariants.{Ended}
 use Rattle.ir_text.specs.Tokens.{TokenV, same, is_mark}
-use Rattle.ir_text.specs.Reading.{Outcome, Reader, ◌>>=◌, Meaning, meant, token_by}
+use Rattle.ir_text.specs.Reading.{Reader, ◌>>=◌, Meaning, meant, token_by}
 use Rattle.ir_text.specs.Leaves.{mark_at, word_at, spelled_name}
 use Rattle.ir_text.specs.Passed.{is_int_word}
 use Rattle.ir_text.specs.Lists.{list_at}

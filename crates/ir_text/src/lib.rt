@@ -1,6 +1,8 @@
 //! The ground of reading module text: tokens in hand, single tokens, what is passed over, types, constants and operands.
 #![tactic(auto)]
 
+#[cfg(test)]
+mod constant_tests;
 pub mod constants;
 pub mod cursor;
 pub mod fault;
@@ -10,6 +12,7 @@ pub mod memory_types;
 pub mod named;
 pub mod names;
 pub mod nested;
+pub mod nested_constants;
 pub mod operands;
 pub mod passed;
 pub mod promises;

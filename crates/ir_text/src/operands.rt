@@ -9,38 +9,18 @@ ghost use Rattle.ir_text.specs.Reading.{Reads, next_is, token_by};
 ghost use Rattle.ir_text.specs.Named.{known_of};
 ghost use Rattle.ir_text.specs.Operands as spec;
 
-use crate::constants::{simple_constant, width_of};
+use crate::constants::width_of;
 use crate::cursor::Cursor;
 use crate::fault::{Fault, ReadEnd};
 use crate::leaves::bad;
 use crate::named::NamedTypes;
 use crate::names::number_of;
+pub use crate::nested_constants::read_constant;
 use crate::types::register_type;
 use ir_lex::token::{Cause, TokenKind};
 use ir_tree::instruction::{Argument, Operand};
 use ir_tree::nodes::{ConstantId, TypeId};
 use ir_tree::table::Names;
-
-/// Reads a constant at a width. `known` are the named types of the whole text.
-#[tactic(auto, using(crate::proofs::Later::later), unfolding(crate::specs::Operands::constant_at, crate::specs::Reading::token_by))]
-pub fn read_constant(
-    cursor: &mut Cursor<'_>,
-    names: &mut Names,
-    known: &NamedTypes,
-    width: u32,
-) -> Result<ConstantId, ReadEnd>
-    requires { IsWidth width }
-    ensures reads { (later : Table) → Grows names.new later → Reads (constant_at later) cursor.new result (spec.constant_at (known_of later known.now) width cursor.old) }
-    ensures within { IfOk result (λ k. k < length names.new.constants) }
-    ensures grows { Grows names.old names.new }
-    ensures shorter { OnOk result (length cursor.new < length cursor.old) }
-{
-    let _ = known;
-    match cursor.next() {
-        None => Err(ReadEnd::Bad(Fault::Ended)),
-        Some(lexeme) => simple_constant(cursor, names, &lexeme, width),
-    }
-}
 
 /// Whether a register comes next.
 #[tactic(auto, unfolding(crate::specs::Reading::next_is))]

@@ -8,11 +8,18 @@ ghost use Rattle.ir_text.specs.Passed.{AfterPassed, may_pass, words_at, some_wor
 ghost use Rattle.ir_text.specs.Tails.{tails_at, some_tails};
 ghost use Rattle.ir_text.specs.Types.{Known, type_at as read_type};
 ghost use Rattle.ir_text.specs.TypeSpelled.{a_type};
+ghost use Rattle.ir_text.specs.MemoryTypes.{memory_type_at, a_memory_type};
 ghost use Rattle.ir_text.specs.Operands.{operand_at, an_operand, argument_at, an_argument};
 
 /// A type is read exactly where it is spelled, and else its first fault is met.
 pub fn types_are_read()
     ensures { (n : ℕ) (known : Known) → Lawful n anything (read_type known) (a_type known) }
+{}
+
+/// A type of memory is read exactly where it is spelled and has a layout, and else the first fault is met: one in the type,
+/// and Layout at its first token behind all others.
+pub fn memory_types_are_read()
+    ensures { (n : ℕ) (known : Known) → Lawful n anything (memory_type_at known) (a_memory_type known) }
 {}
 
 /// Attributes and markers are passed over up to a word that is not, and else the first fault in them is met.

@@ -1,6 +1,8 @@
 //! Texts, what is read of them, and their first faults.
 use crate::cursor::Cursor;
 use crate::fault::{Fault, ReadEnd};
+use crate::layouts::TypeLayouts;
+use crate::memory_types::read_memory_type;
 use crate::named::NamedTypes;
 use crate::nested::read_type;
 use crate::operands::argument;
@@ -14,7 +16,7 @@ use std::fmt::Write;
 use std::process::Abort;
 use std::test::Fail;
 
-fn word(cause: &Cause) -> &'static str {
+pub fn word(cause: &Cause) -> &'static str {
     match cause {
         Cause::Name => "name",
         Cause::BadType => "bad-type",
@@ -22,13 +24,15 @@ fn word(cause: &Cause) -> &'static str {
         Cause::Operand => "operand",
         Cause::OutOfProfile(_) => "out-of-profile",
         Cause::Number => "number",
+        Cause::Layout => "layout",
         _ => "other",
     }
 }
 
-/// What is read of a text: a type, an argument, attributes or tails.
+/// What is read of a text: a type, a type of memory, an argument, attributes or tails.
 enum What {
     Type,
+    MemoryType,
     Argument,
     Words,
     Tails,
@@ -39,6 +43,11 @@ fn read(cursor: &mut Cursor<'_>, names: &mut Names, what: &What) -> Result<(), R
     match what {
         What::Type => {
             read_type(cursor, names, &known)?;
+            Ok(())
+        }
+        What::MemoryType => {
+            let mut layouts = TypeLayouts::new(cursor.alloc());
+            read_memory_type(cursor, names, &known, &mut layouts)?;
             Ok(())
         }
         What::Argument => {
@@ -58,7 +67,7 @@ fn read(cursor: &mut Cursor<'_>, names: &mut Names, what: &What) -> Result<(), R
 
 /// How many tokens are left behind what was read, or the line and the cause of the fault.
 fn shown(rt: &impl Abort, alloc: Global, text: &[u8], what: &What) -> Result<String, Fail> {
-    assert!(rt; text.len() < 1_000_000);
+    assert!(rt; text.len() < 2_000_000);
     let lexed = tokens(alloc, text)?;
     let mut names = Names::new(alloc);
     let mut cursor = Cursor::new(alloc, text, lexed.tokens.as_slice());
@@ -106,6 +115,43 @@ fn reads_types(rt: HostRuntime) -> Result<(), Fail> {
             "{text}"
         );
     }
+    Ok(())
+}
+
+#[test]
+fn reads_memory_types(rt: HostRuntime) -> Result<(), Fail> {
+    for (text, want) in [
+        ("i32, i8 0", "3"),
+        ("i24", "layout 1"),
+        ("i65", "width 1"),
+        ("[4 x\ni7] %x", "layout 1"),
+        ("[4 x\ni0]", "width 2"),
+        ("{ i8, i64 }", "0"),
+        ("[9223372036854775808 x i8]", "layout 1"),
+        ("[9223372036854775808 x {}]", "0"),
+        ("void", "bad-type 1"),
+        ("", "end"),
+    ] {
+        assert_eq!(rt;
+            shown(&rt, rt.alloc(), text.as_bytes(), &What::MemoryType)?.as_str(),
+            want,
+            "{text}"
+        );
+    }
+    Ok(())
+}
+
+#[test]
+fn reads_deep_types(rt: HostRuntime) -> Result<(), Fail> {
+    let mut text = Vec::new(rt.alloc());
+    for _ in 0..1_000_000 {
+        text.push(b'{')?;
+    }
+    assert_eq!(rt;
+        shown(&rt, rt.alloc(), text.as_slice(), &What::MemoryType)?.as_str(),
+        "end",
+        "a million brackets"
+    );
     Ok(())
 }
 
