@@ -28,7 +28,8 @@ use Rattle.ir_text.specs.Types.{Known, register_type, simple, simple_by}
 use Rattle.ir_text.specs.TypeSpelled.{◌▸◌, a_mark, a_type}
 use Rattle.ir_text.proofs.Choices.{token_laws, respell}
 use Rattle.ir_text.proofs.ChoiceLaws.{choice, opens_more}
-use Rattle.ir_text.proofs.OperandLaws.{operand_laws, constant_opens}
+use Rattle.ir_text.proofs.ConstantLaws.{constant_opens}
+use Rattle.ir_text.proofs.OperandLaws.{operand_laws}
 use Rattle.ir_text.proofs.Persisting.{Takers}
 use Rattle.ir_text.proofs.RepeatedLaws.{repeated_laws}
 use Rattle.ir_text.proofs.TailLaws.{tail_laws}

@@ -29,7 +29,9 @@ use Rattle.ir_text.specs.TypeSpelled.{◌▸◌, a_mark, a_word}
 use Rattle.ir_text.proofs.Laws.{nothing_laws}
 use Rattle.ir_text.proofs.Choices.{token_laws, respell}
 use Rattle.ir_text.proofs.ChoiceLaws.{choice}
-use Rattle.ir_text.proofs.OperandLaws.{operand_laws, constant_laws, constant_opens}
+use Rattle.ir_text.proofs.ConstantFuel.{constant_laws}
+use Rattle.ir_text.proofs.ConstantLaws.{constant_opens}
+use Rattle.ir_text.proofs.OperandLaws.{operand_laws}
 use Rattle.ir_text.proofs.Persisting.{Takers}
 use Rattle.ir_text.proofs.RepeatedLaws.{repeated_laws}
 use Rattle.ir_instr.specs.Parts.{fixed_type, integer_type}
@@ -278,7 +280,7 @@ module _ (n : ℕ) (known : Known) where
 
     value_laws : Lawful n anything (case_value_at known of earlier) a_value
     unfolding case_value_at
-    value_laws = checked n (constant_at known (width_of of)) (a_constant known (width_of of)) why (case_value_at known of earlier) (constant_laws n known (width_of of)) constant_takes refl (λ t rest. judged (constant_at known (width_of of) (t ∷ rest)) t)
+    value_laws = checked n (constant_at known (width_of of)) (a_constant known (width_of of)) why (case_value_at known of earlier) (constant_laws known n (width_of of)) constant_takes refl (λ t rest. judged (constant_at known (width_of of) (t ∷ rest)) t)
 
     abbrev a_case : Spelling (Case Name ConstantV)
     a_case = Made (λ (p : ConstantV × Name). record { value = p.0; to = p.1 }) (λ p. one_token (fixed_type of) tt ▸ a_value p.0 ▸ a_mark 44 ▸ a_target p.1)

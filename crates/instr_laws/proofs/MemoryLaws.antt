@@ -25,7 +25,8 @@ use Rattle.ir_text.proofs.Persisting.{Takers}
 use Rattle.ir_text.proofs.TailLaws.{tail_laws, tails_laws}
 use Rattle.ir_text.proofs.TypeFuel.{type_laws}
 use Rattle.ir_text.proofs.TypeLaws.{type_opens}
-use Rattle.ir_instr.specs.Parts.{integer_type, has_layout, memory_type_at, integer_argument_at}
+use Rattle.ir_text.specs.MemoryTypes.{has_layout, memory_type_at}
+use Rattle.ir_instr.specs.Parts.{integer_type, integer_argument_at}
 use Rattle.ir_instr.specs.Memory.{begins_tail, uncounted, counted, behind_comma, count_at, alloca_at}
 use Rattle.ir_instr.specs.InstructionSpelled.{InMemory, an_integer_argument, a_count}
 use Rattle.instr_laws.specs.Made.{Made}
