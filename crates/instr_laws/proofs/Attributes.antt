@@ -13,7 +13,8 @@ use Rattle.ir_text.specs.Reading.{Outcome, Reader, ◌>>=◌, meant, token_by, n
 use Rattle.ir_text.specs.Choice.{choose, Opens}
 use Rattle.ir_text.specs.Lawful.{Follow, anything, Lawful, Refuses}
 use Rattle.ir_text.specs.Leaves.{mark, mark_at}
-use Rattle.ir_text.specs.Operands.{constant_at, operand_at, an_operand}
+use Rattle.ir_text.specs.NestedConstants.{constant_at, constant_to}
+use Rattle.ir_text.specs.Operands.{operand_at, an_operand}
 use Rattle.ir_text.specs.Passed.{is_integer, kind_is_integer, some_integer, group_from, a_group, after_sign, after_string, may_pass, with_word, with_string, passed_led, passed_unless, some_words}
 use Rattle.ir_text.specs.Repeated.{Both, repeated_to, repeated_under, each, stays}
 use Rattle.ir_text.specs.Spelled.{Spelling, InTurn, Led, one_token, when, unless}
@@ -252,7 +253,7 @@ module _ (known : Known) (of : TypeV) where
   same k m ts le lt = ap (λ (o : Outcome (List (Unit {0}))). o >>= λ all. operand_at known of all.1) (enough (may_pass begins_value) (λ _. attribute_at) stays (λ _ us x e. attribute_less us x e) k m tt ts le lt)
 
   operand_none : operand_at known of [] ≡ Err Ended
-  unfolding next_is constant_at token_by
+  unfolding next_is constant_at constant_to token_by
   operand_none = refl
 
   up_to_ended : (k : ℕ) → up_to k [] ≡ Err Ended

@@ -13,7 +13,7 @@ use Rattle.ir_tree.specs.Trees.{IntV, IntegerC}
 use Rattle.ir_text.specs.declared.fault.Fault.TheVariants.{At, Ended}
 use Rattle.ir_text.specs.Tokens.{TokenV, among, is_refused, blamed}
 use Rattle.ir_text.specs.Constants.{integer_in, word_constant}
-use Rattle.ir_text.specs.Operands.{constant_at}
+use Rattle.ir_text.specs.NestedConstants.{constant_at, constant_to, constant_rule}
 use Rattle.ir_text.specs.Passed.{may_pass, passed_at, is_int_word, stops_at}
 use Rattle.ir_text.specs.Reading.{token_by, next_is}
 use Rattle.ir_text.specs.Repeated.{repeated_to, repeated_under}
@@ -50,7 +50,7 @@ reads_ret_zero : module_at no_types ret_zero ≡ Ok (
   },
   [],
 )
-unfolding no_types at ret_zero is_digit name_of number_after among is_refused blamed integer_in word_constant constant_at may_pass passed_at is_int_word stops_at token_by next_is repeated_to repeated_under int_type word_type effect_at marked_call meaning_of entries_to worded_item_at
+unfolding no_types at ret_zero is_digit name_of number_after among is_refused blamed integer_in word_constant constant_at constant_to constant_rule may_pass passed_at is_int_word stops_at token_by next_is repeated_to repeated_under int_type word_type effect_at marked_call meaning_of entries_to worded_item_at
 reads_ret_zero = refl
 
 -- a label a second time
@@ -60,7 +60,7 @@ two_labels =
     ∷ at 2 kind.Label (codes "a:") ∷ at 3 kind.Word (codes "unreachable") ∷ at 4 kind.Label (codes "a:") ∷ at 5 kind.Word (codes "unreachable") ∷ at 6 kind.Punct (codes "}") ∷ []
 
 reads_two_labels : module_at no_types two_labels ≡ Err (At 4 causes.Duplicate)
-unfolding no_types at two_labels is_digit name_of number_after among is_refused blamed integer_in word_constant constant_at may_pass passed_at is_int_word stops_at token_by next_is repeated_to repeated_under int_type word_type effect_at marked_call meaning_of entries_to worded_item_at
+unfolding no_types at two_labels is_digit name_of number_after among is_refused blamed integer_in word_constant constant_at constant_to constant_rule may_pass passed_at is_int_word stops_at token_by next_is repeated_to repeated_under int_type word_type effect_at marked_call meaning_of entries_to worded_item_at
 reads_two_labels = refl
 
 -- the unnamed parameter has the number 0, and the entry block 1
@@ -70,9 +70,9 @@ next_label label =
     ∷ at 2 kind.Word (codes "unreachable") ∷ at 3 kind.Label label ∷ at 4 kind.Word (codes "unreachable") ∷ []
 
 reads_next_label : module_at no_types (next_label (codes "2:")) ≡ Err Ended
-unfolding no_types at next_label is_digit name_of number_after among is_refused blamed integer_in word_constant constant_at may_pass passed_at is_int_word stops_at token_by next_is repeated_to repeated_under int_type word_type effect_at marked_call meaning_of entries_to worded_item_at
+unfolding no_types at next_label is_digit name_of number_after among is_refused blamed integer_in word_constant constant_at constant_to constant_rule may_pass passed_at is_int_word stops_at token_by next_is repeated_to repeated_under int_type word_type effect_at marked_call meaning_of entries_to worded_item_at
 reads_next_label = refl
 
 reads_other_label : module_at no_types (next_label (codes "1:")) ≡ Err (At 3 causes.Name)
-unfolding no_types at next_label is_digit name_of number_after among is_refused blamed integer_in word_constant constant_at may_pass passed_at is_int_word stops_at token_by next_is repeated_to repeated_under int_type word_type effect_at marked_call meaning_of entries_to worded_item_at
+unfolding no_types at next_label is_digit name_of number_after among is_refused blamed integer_in word_constant constant_at constant_to constant_rule may_pass passed_at is_int_word stops_at token_by next_is repeated_to repeated_under int_type word_type effect_at marked_call meaning_of entries_to worded_item_at
 reads_other_label = refl
