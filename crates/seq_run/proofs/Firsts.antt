@@ -15,6 +15,8 @@ use Rattle.seq_machine.specs.Values.{IsOf, AreOf}
 use Rattle.seq_machine.specs.Flow.{entry_registers}
 use Rattle.seq_machine.specs.Acts.{entered, function_at, block_at, blocks_of}
 use Rattle.seq_machine.specs.Frames.{FrameOf, FramesOf}
+use Rattle.seq_machine.specs.Owned.{OwnOf}
+use Rattle.mem_image.specs.Picture.{Picture}
 use Rattle.checked_code.specs.Starting.{AreMainTypes, Starts}
 use Rattle.seq_run.specs.First.{main_arguments, main_registers, first_frames}
 
@@ -120,3 +122,11 @@ frames_of code s frames is =
 
 pub first_frames_of : (code : Code) (s : Starts code) (frames : List Frame) → frames ≡ first_frames code code.main → FramesOf code frames
 first_frames_of code s frames is = frames_of code s frames (is ∙ ap (first_frames code) s.main)
+
+owns_nothing : (code : Code) (o : Option ℕ) (m : Picture) → OwnOf (first_frames code o) m
+owns_nothing code None m = record { slots = tt; once = tt }
+owns_nothing code (Some k) m = record { slots = tt; once = tt }
+
+-- the first frame owns no stack slot
+pub first_own : (code : Code) (frames : List Frame) (m : Picture) → frames ≡ first_frames code code.main → OwnOf frames m
+first_own code frames m is = rw is (owns_nothing code code.main m)

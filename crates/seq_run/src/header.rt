@@ -50,7 +50,7 @@ fn run_on(
     requires code { CodeOk code.now }
     requires state { StateOf code.now state.old }
     requires headers { length headers.now ≤ 2 ^ 32 }
-    ensures kept { StateOf code.now state.new }
+    ensures kept { IfOk result (λ _. StateOf code.now state.new) }
     ensures run { IfOk result (λ stop. to_header code.now input.now headers.now state.old (n - state.old.steps) ≡ (stop, state.new)) }
 {
     while state.steps < n {
@@ -78,7 +78,7 @@ pub fn run_to_header(
     headers: &List<Header>,
 ) -> Result<Stop, Memory>
     requires state { StateOf (code_of program.now) state.old }
-    ensures kept { StateOf (code_of program.now) state.new }
+    ensures kept { IfOk result (λ _. StateOf (code_of program.now) state.new) }
     ensures run { IfOk result (λ stop. to_header (code_of program.now) input.now headers.now state.old (n - state.old.steps) ≡ (stop, state.new)) }
 {
     if headers.len() > NUMBERS {

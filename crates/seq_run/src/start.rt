@@ -94,9 +94,12 @@ pub fn start(program: &Program) -> Result<State<Image>, Memory>
     ensures module { IfOk result (StateOf (code_of program.now)) }
 {
     program.starts();
+    let frames = first_frames(program)?;
+    let memory = first_memory(program)?;
+    memory.next();
     Ok(State {
-        frames: first_frames(program)?,
-        memory: first_memory(program)?,
+        frames,
+        memory,
         input_place: 0,
         output: Bytes::new(program.alloc()),
         steps: 0,
