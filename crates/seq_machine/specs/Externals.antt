@@ -1,7 +1,7 @@
 -- What the functions outside a module do (the C library; LLVM Language Reference, "Standard C/C++ Library Intrinsics").
 use Rattle.std.specs.Prelude.{ℕ, zero, suc, ◌+◌, ◌*◌, ◌==◌, ◌%◌, ◌^◌, min, List, [], ◌∷◌, ◌++◌, length, map, slice_get, slice_set, Option, None, Some, Result, Ok, Err, Bool, true, false, pos, if◌then◌else◌}
 use Rattle.std.specs.Int.{int_wrapping_add, w64}
-use Rattle.int_num.specs.Integer.{Integer}
+use Rattle.int_num.specs.Integer.{Integer, low_byte}
 use Rattle.int_num.specs.Operations.{of_bits, compare}
 use Rattle.int_num.specs.declared.ops.Pred.{Pred}
 use Rattle.int_num.specs.declared.ops.Pred.TheVariants.{Sgt, Slt, Ugt, Ult}
@@ -74,7 +74,7 @@ printing types to text n = where_ (accepts types to (scalar.Int 32)) (Print text
 
 -- the low byte, which it answers
 abbrev pub putchar : List Scalar → Frame → Option ℕ → List Operand → Result Effect Trap
-putchar types f to (x ∷ []) = then_ (number f x) (λ n. printing types to (n.bits % 256 ∷ []) (n.bits % 256))
+putchar types f to (x ∷ []) = then_ (number f x) (λ n. printing types to (low_byte n ∷ []) (low_byte n))
 putchar types f to _ = Err Unreachable
 
 abbrev pub taking : Option ℕ → ℕ → Option ℕ → Effect

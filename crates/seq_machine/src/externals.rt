@@ -11,6 +11,7 @@ use crate::values::{give, is_type};
 use int_num::compare::compare;
 use int_num::int::Int;
 use int_num::ops::Pred;
+use int_num::sign::low_byte;
 use ir_code::op::{Operand, Scalar};
 use mem_image::fault::{Fault, Trap};
 use mem_image::memory::Mem;
@@ -256,7 +257,7 @@ pub fn putchar(
     match arguments.as_slice() {
         [value] => {
             let low = match frame.number(*value) {
-                Ok(value) => (value.bits() % 256) as u8,
+                Ok(value) => low_byte(value),
                 Err(trap) => return Err(Fault::Trap(trap)),
             };
             let mut text = Bytes::new(types.alloc());
