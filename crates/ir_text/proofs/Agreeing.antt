@@ -36,7 +36,7 @@ bind_keeps n (Ok a) f x one two e = two a (one a refl) e
 bind_keeps n (Err d) f x one two e = absurd cc
 
 module _ {A : Type 0} (k : ℕ) (r q : Reader A) (same : Agree k r q) (less : Shortens r) where
-  comma_agree : Agree k (after_comma r) (after_comma q)
+  pub comma_agree : Agree k (after_comma r) (after_comma q)
   comma_agree ts few = bind_agree (mark_at 44 ts) (mark_at 44 ts) _ _ refl (λ x e. let fewer = mark_keeps 44 ts x e in same x.1 (omega arith))
 
   pub comma_less : Shortens (after_comma r)
@@ -67,3 +67,20 @@ module _ {A : Type 0} (k : ℕ) (r q : Reader A) (same : Agree k r q) (less : Sh
   unfolding list_at
   list_agree close ts few =
       ap (λ (o : Outcome (List A)). cond (next_is (is_mark close) ts) (mark_for close [] ts) (o >>= λ all. mark_for close all.0 all.1)) (listed_agree ts few)
+
+-- items under what those before them left
+module _ {S A : Type 0} (k : ℕ) (test : TokenV → Bool) (r q : S → Reader A) (next : S → A → S) (same : (s : S) → Agree k (r s) (q s)) (less : (s : S) → Shortens (r s)) where
+  many_under : (n : ℕ) (s : S) → Agree k (repeated_to test r next n s) (repeated_to test q next n s)
+  unfolding repeated_to
+  many_under zero s ts few = refl
+  many_under (suc n) s ts few =
+      let one : (r s ts >>= λ first. repeated_to test r next n (next s first.0) first.1 >>= λ others. Ok (first.0 ∷ others.0, others.1))
+      ≡ (q s ts >>= λ first. repeated_to test q next n (next s first.0) first.1 >>= λ others. Ok (first.0 ∷ others.0, others.1)) =
+      bind_agree (r s ts) (q s ts) _ _ (same s ts few) (λ x e.
+      let fewer : 1 + length x.1 ≤ length ts = less s ts x e in
+      ap (λ (o : Outcome (List A)). o >>= λ others. Ok (x.0 ∷ others.0, others.1)) (many_under n (next s x.0) x.1 (omega arith))) in
+      ap (λ (o : Outcome (List A)). cond (next_is test ts) o (Ok ([], ts))) one
+
+  pub under_agree : (s : S) → Agree k (repeated_under test r next s) (repeated_under test q next s)
+  unfolding repeated_under
+  under_agree s ts few = many_under (length ts) s ts few

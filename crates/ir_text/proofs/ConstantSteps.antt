@@ -1,9 +1,11 @@
 -- What a step of reading constants leads to.
-use Rattle.std.proofs.Common.{◌≡◌, ℕ, ◌+◌, ◌≤◌, length, Bool, true, false, cond, List, [], ◌∷◌, ◌++◌, map, drop, Ok, Err, refl, sym, ap, subst, ◌∙◌, append_assoc}
-use Rattle.std.specs.Prelude.{codes}
+use Rattle.std.proofs.Common.{◌≡◌, ℕ, ◌+◌, ◌≤◌, length, Bool, true, false, cond, List, [], ◌∷◌, ◌++◌, map, drop, Option, Some, None, Ok, Err, refl, sym, ap, subst, ◌∙◌, append_assoc}
+use Rattle.std.specs.Prelude.{codes, option_map}
+use Rattle.std.proofs.lemmas.List.{map_push}
 use Rattle.ir_tree.specs.declared.nodes.Element.{Element}
 use Rattle.ir_tree.specs.Table.{Table}
-use Rattle.ir_tree.specs.Trees.{TypeV, ConstantV, MoreC}
+use Rattle.std.proofs.lemmas.List.{append-nil}
+use Rattle.ir_tree.specs.Trees.{TypeV, TypesV, ConstantV, MoreC}
 use Rattle.ir_tree.specs.Naming.{elements_at, constant_at as constant_in, type_at as type_in}
 use Rattle.ir_text.specs.declared.fault.Fault.{Fault}
 use Rattle.ir_text.specs.declared.fault.Fault.TheVariants.{Ended}
@@ -13,19 +15,21 @@ use Rattle.ir_text.specs.declared.nested_constants.Bracket.{Bracket}
 use Rattle.ir_text.specs.declared.nested_constants.Bracket.TheVariants as bracket
 use Rattle.ir_text.specs.declared.nested_constants.OpenConstant.{OpenConstant}
 use Rattle.ir_text.specs.Tokens.{TokenV, is_mark, is_word}
-use Rattle.ir_text.specs.Reading.{Outcome, Reader, ◌>>=◌, Fails, next_is, sees, meant}
+use Rattle.ir_text.specs.Reading.{Outcome, Reader, ◌>>=◌, gives, Fails, next_is, sees, meant, token_by}
 use Rattle.ir_text.specs.Leaves.{mark_at}
-use Rattle.ir_text.specs.Repeated.{repeated, stays}
+use Rattle.ir_text.specs.Choice.{choose}
+use Rattle.ir_text.specs.Repeated.{repeated, repeated_under, stays}
 use Rattle.ir_text.specs.Lists.{after_comma, listed_at, mark_for, list_at}
-use Rattle.ir_text.specs.Types.{Known, type_at}
+use Rattle.ir_text.specs.Types.{Known, register_type, type_at}
+use Rattle.ir_text.specs.Indices.{no_type, integer_type, word_of_32, field, Entry, Counted, Field, Never, entry_of, led_to}
 use Rattle.ir_text.specs.Constants.{width_of, simple_constant}
-use Rattle.ir_text.specs.NestedConstants.{Typed, elements_of, closing_mark, bracket_end, bracket_rule, packed_rule, text_rule, constant_rule, constant_at}
-use Rattle.ir_text.specs.OpenConstants.{element, elements_behind, brackets, elements_end, elements_from, shown_element, closing, resume}
+use Rattle.ir_text.specs.NestedConstants.{Typed, elements_of, closing_mark, bracket_end, bracket_rule, packed_rule, text_rule, index_at, next_into, indices_end, base_end, address_rule, constant_rule, constant_at}
+use Rattle.ir_text.specs.OpenConstants.{element, elements_behind, brackets, elements_end, elements_from, shown_element, address_close, address_end, counted_end, field_end, index_end, fields_of, closing, resume}
 use Rattle.ir_text.proofs.Agreeing.{comma_less}
 use Rattle.ir_text.proofs.RepeatedLaws.{repeated_is}
-use Rattle.ir_text.proofs.ConstantFuel.{element_shortens, constant_none, constant_is}
+use Rattle.ir_text.proofs.ConstantFuel.{element_shortens, index_shortens, constant_none, constant_is}
 use Rattle.ir_text.proofs.Eaten.{eaten}
-use Rattle.ir_text.proofs.NestedSteps.{bind_bind}
+use Rattle.ir_text.proofs.NestedSteps.{bind_bind, bind_fails, fails_is}
 
 pub shown_is : (later : Table) (es : List Element) → elements_of (map (shown_element later) es) ≡ elements_at later es
 shown_is later [] = refl
@@ -145,6 +149,83 @@ module _ (known : Known) where
     unfolding constant_rule
     opens_text a s p x = opens ∙ rw (a, s, p, x) refl
 
-    pub opens_simple : is_mark 91 t ≡ false → is_mark 123 t ≡ false → is_mark 60 t ≡ false → is_word (codes "c") t ≡ false → constant_at known w ts ≡ meant (simple_constant w t) t rest
+    pub opens_address : is_mark 91 t ≡ false → is_mark 123 t ≡ false → is_mark 60 t ≡ false → is_word (codes "c") t ≡ false → is_word (codes "getelementptr") t ≡ true → constant_at known w ts ≡ address_rule known (constant_at known) rest
     unfolding constant_rule
-    opens_simple a s p x = opens ∙ rw (a, s, p, x) refl
+    opens_address a s p x y = opens ∙ rw (a, s, p, x, y) refl
+
+    pub opens_simple : is_mark 91 t ≡ false → is_mark 123 t ≡ false → is_mark 60 t ≡ false → is_word (codes "c") t ≡ false → is_word (codes "getelementptr") t ≡ false → constant_at known w ts ≡ meant (simple_constant w t) t rest
+    unfolding constant_rule
+    opens_simple a s p x y = opens ∙ rw (a, s, p, x, y) refl
+
+  -- ---- addresses
+
+  module _ (of : TypeV) (base : ConstantV) (front : List Typed) where
+    by_index_value : (t : TypeV) (next : Option TypeV) (o : Outcome ConstantV)
+        → ((o >>= λ value. (let p : Outcome Typed = Ok ((t, value.0), value.1) in p)) >>= λ e. address_end known of base (front ++ e.0 ∷ []) next e.1) ≡ (o >>= index_end known of base front t next)
+    unfolding index_end
+    by_index_value t next (Ok x) = refl
+    by_index_value t next (Err f) = refl
+
+    by_index_type : (next : Option TypeV) (o : Outcome TypeV)
+        → ((o >>= λ t. constant_at known (width_of t.0) t.1 >>= λ value. (let p : Outcome Typed = Ok ((t.0, value.0), value.1) in p)) >>= λ e. address_end known of base (front ++ e.0 ∷ []) next e.1) ≡ (o >>= λ t. constant_at known (width_of t.0) t.1 >>= index_end known of base front t.0 next)
+    by_index_type next (Ok t) = by_index_value t.0 next (constant_at known (width_of t.0) t.1)
+    by_index_type next (Err f) = refl
+
+    -- the type of an index, and what stands behind it
+    pub counted_from : (next : Option TypeV) (ts : List TokenV) → counted_end known of base front next ts ≡ (token_by integer_type ts >>= λ t. constant_at known (width_of t.0) t.1 >>= index_end known of base front t.0 next)
+    counted_from next ts = by_index_type next (token_by integer_type ts)
+
+    close_inner : (e : Typed) (o : Outcome (List Typed))
+        → ((o >>= λ others. (let p : Outcome (List Typed) = Ok (e ∷ others.0, others.1) in p)) >>= λ all. address_close of base (front ++ all.0) all.1) ≡ (o >>= λ others. address_close of base ((front ++ e ∷ []) ++ others.0) others.1)
+    close_inner e (Ok z) = ap (λ (xs : List Typed). address_close of base xs z.1) (sym (append_assoc front (e ∷ []) z.0))
+    close_inner e (Err f) = refl
+
+    abbrev others_from : Option TypeV → Reader (List Typed)
+    others_from into ts = repeated_under (is_mark 44) (λ i. after_comma (index_at known (constant_at known) i)) (next_into known (constant_at known)) into ts
+
+    close_outer : (into : Option TypeV) (o : Outcome Typed)
+        → ((o >>= λ first. others_from (next_into known (constant_at known) into first.0) first.1 >>= λ others. (let p : Outcome (List Typed) = Ok (first.0 ∷ others.0, others.1) in p)) >>= λ all. address_close of base (front ++ all.0) all.1)
+        ≡ (o >>= λ first. address_end known of base (front ++ first.0 ∷ []) (next_into known (constant_at known) into first.0) first.1)
+    unfolding indices_end
+    close_outer into (Ok x) = close_inner x.0 (others_from (next_into known (constant_at known) into x.0) x.1)
+    close_outer into (Err f) = refl
+
+    others_is : (into : Option TypeV) (ts : List TokenV) → others_from into ts ≡ choose (is_mark 44) (λ us. after_comma (index_at known (constant_at known) into) us >>= λ first. others_from (next_into known (constant_at known) into first.0) first.1 >>= λ others. Ok (first.0 ∷ others.0, others.1)) (gives []) ts
+    others_is into ts = repeated_is (is_mark 44) (λ i. after_comma (index_at known (constant_at known) i)) (next_into known (constant_at known)) (λ i. index_shortens known i) into ts
+
+    -- a further index
+    index_more : (into : Option TypeV) (ts : List TokenV) → sees 44 ts ≡ true
+        → address_end known of base front into ts ≡ (index_at known (constant_at known) into (drop 1 ts) >>= λ first. address_end known of base (front ++ first.0 ∷ []) (next_into known (constant_at known) into first.0) first.1)
+    index_more into ts comma =
+        let one : address_end known of base front into ts ≡ (others_from into ts >>= λ all. address_close of base (front ++ all.0) all.1) = unfold indices_end in refl in
+        let two : others_from into ts ≡ (index_at known (constant_at known) into (drop 1 ts) >>= λ first. others_from (next_into known (constant_at known) into first.0) first.1 >>= λ others. Ok (first.0 ∷ others.0, others.1)) = others_is into ts ∙ rw comma (rw (eaten 44 ts comma) refl) in
+        one ∙ ap (λ (o : Outcome (List Typed)). o >>= λ all. address_close of base (front ++ all.0) all.1) two ∙ close_outer into (index_at known (constant_at known) into (drop 1 ts))
+
+    -- no further index
+    pub index_last : (into : Option TypeV) (ts : List TokenV) → sees 44 ts ≡ false → address_end known of base front into ts ≡ address_close of base front ts
+    index_last into ts comma =
+        let one : address_end known of base front into ts ≡ (others_from into ts >>= λ all. address_close of base (front ++ all.0) all.1) = unfold indices_end in refl in
+        let two : others_from into ts ≡ Ok ([], ts) = others_is into ts ∙ rw comma refl in
+        one ∙ ap (λ (o : Outcome (List Typed)). o >>= λ all. address_close of base (front ++ all.0) all.1) two ∙ ap (λ (xs : List Typed). address_close of base xs ts) (append-nil front)
+
+    pub more_counted : (into next : Option TypeV) (ts : List TokenV) → sees 44 ts ≡ true → Counted next ≡ entry_of known into → address_end known of base front into ts ≡ counted_end known of base front next (drop 1 ts)
+    more_counted into next ts comma is = index_more into ts comma ∙ rw (sym is) refl
+
+    pub more_field : (into : Option TypeV) (fields : TypesV) (ts : List TokenV) → sees 44 ts ≡ true → Field fields ≡ entry_of known into → address_end known of base front into ts ≡ field_end known of base front fields (drop 1 ts)
+    more_field into fields ts comma is = index_more into ts comma ∙ rw (sym is) refl
+
+    pub more_never : (into : Option TypeV) (ts : List TokenV) (e : ReadEnd) → sees 44 ts ≡ true → Never ≡ entry_of known into → Fails e (token_by (λ t. no_type {A = Typed} (register_type t)) (drop 1 ts)) → Fails e (address_end known of base front into ts)
+    more_never into ts e comma is h = fails_is e _ _ (index_more into ts comma ∙ rw (sym is) refl) (bind_fails e (token_by (λ t. no_type {A = Typed} (register_type t)) (drop 1 ts)) (λ first. address_end known of base (front ++ first.0 ∷ []) (led_to Never first.0.1) first.1) h)
+
+  -- behind the pointer
+  pub base_from : (of : TypeV) (base : ConstantV) (ts : List TokenV) → base_end known (constant_at known) of (base, ts) ≡ (mark_at 44 ts >>= λ comma. counted_end known of base [] (Some of) comma.1)
+  unfolding base_end
+  base_from of base ts = refl
+
+-- a field is read: its word, its number, and where it leads
+pub field_from : (known : Known) (later : Table) (of base struct word value : ℕ) (es more : List Element) (next : Option ℕ) (ts us vs : List TokenV)
+    → token_by word_of_32 ts ≡ Ok (type_in later word, us) → token_by (field (fields_of (type_in later struct))) us ≡ Ok (constant_in later value, vs) → option_map (type_in later) next ≡ led_to (Field (fields_of (type_in later struct))) (constant_in later value)
+    → more ≡ es ++ (record { of = word; value = value }) ∷ []
+    → field_end known (type_in later of) (constant_in later base) (map (shown_element later) es) (fields_of (type_in later struct)) ts ≡ address_end known (type_in later of) (constant_in later base) (map (shown_element later) more) (option_map (type_in later) next) vs
+field_from known later of base struct word value es more next ts us vs first second leads is =
+    rw (first, second, ← leads, is, map_push (shown_element later) es (record { of = word; value = value })) refl

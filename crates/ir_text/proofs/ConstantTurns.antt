@@ -1,7 +1,8 @@
 -- The stack of open constants, a turn of the loop further.
 use Rattle.std.proofs.Common.{◌≡◌, ℕ, ◌+◌, ◌<◌, ◌≤◌, List, [], ◌∷◌, ◌++◌, Ok, length, All, arith, refl, sym, ap, ◌∙◌}
 use Rattle.std.proofs.lemmas.List.Elements.{All-push, All-pop}
-use Rattle.std.specs.Prelude.{Some}
+use Rattle.std.specs.Prelude.{Option, Some, None}
+use Rattle.ir_text.specs.declared.nested_constants.Address.{Address}
 use Rattle.ir_tree.specs.declared.nodes.Element.{Element}
 use Rattle.ir_text.specs.declared.fault.ReadEnd.{ReadEnd}
 use Rattle.ir_text.specs.declared.nested_constants.OpenConstant.{OpenConstant}
@@ -13,7 +14,7 @@ use Rattle.ir_tree.proofs.Showing.{type_within_more, constant_within_more}
 use Rattle.ir_text.specs.Tokens.{TokenV}
 use Rattle.ir_text.specs.Reading.{Outcome, ◌>>=◌, Fails}
 use Rattle.ir_text.specs.Types.{Known, type_at}
-use Rattle.ir_text.specs.OpenConstants.{closing, resume, OpenWithin}
+use Rattle.ir_text.specs.OpenConstants.{closing, resume, AddressWithin, TypeWithin, OpenWithin}
 use Rattle.ir_text.proofs.TypeFuel.{at_less}
 use Rattle.ir_text.proofs.NestedSteps.{bind_fails, fails_is}
 use Rattle.ir_text.proofs.ConstantSteps.{push_open, resume_fails}
@@ -33,6 +34,13 @@ module _ (known : Known) (later : Table) (o : OpenConstant) (total : Outcome Con
   pub pushed_fails : (e : ReadEnd) (os : List OpenConstant) (read : Outcome ConstantV) → resume known later os (read >>= closing known later o) ≡ total → Fails e read → Fails e total
   pushed_fails e os read so_far h = fails_is e total _ (sym so_far) (resume_fails known later os e _ (bind_fails e read (closing known later o) h))
 
+module _ (known : Known) (later : Table) (total : Outcome ConstantV) where
+  pub stepped : (os : List OpenConstant) (read next : Outcome ConstantV) → resume known later os read ≡ total → read ≡ next → resume known later os next ≡ total
+  stepped os read next so_far step = sym (ap (resume known later os) step) ∙ so_far
+
+  pub stepped_fails : (e : ReadEnd) (os : List OpenConstant) (read : Outcome ConstantV) → resume known later os read ≡ total → Fails e read → Fails e total
+  stepped_fails e os read so_far h = fails_is e total _ (sym so_far) (resume_fails known later os e read h)
+
 -- ---- the numbers on the stack
 
 pub elements_more : (a b : Table) (es : List Element) → Grows a b → ElementsWithin a es → ElementsWithin b es
@@ -44,7 +52,16 @@ elements_more a b es grows h = λ i d lt. more _ (h i d lt)
 pub element_pushed : (t : Table) (es : List Element) (e : Element) → ElementsWithin t es → e.of < length t.types → e.value < length t.constants → ElementsWithin t (es ++ e ∷ [])
 element_pushed t es e h of value = All-push (ElementWithin t) es e h (record { of = of; value = value })
 
+pub address_more : (a b : Table) (x : Address) → Grows a b → AddressWithin a x → AddressWithin b x
+address_more a b x grows h = record { of = type_within_more a b x.of grows h.of; base = constant_within_more a b x.base grows h.base; indices = elements_more a b x.indices grows h.indices }
+
+pub into_more : (a b : Table) (into : Option ℕ) → Grows a b → TypeWithin a into → TypeWithin b into
+into_more a b None grows h = tt
+into_more a b (Some k) grows h = type_within_more a b k grows h
+
 pub open_more : (a b : Table) (o : OpenConstant) → Grows a b → OpenWithin a o → OpenWithin b o
+open_more a b (waiting.Base of) grows h = type_within_more a b of grows h
+open_more a b (waiting.Index x of into) grows h = (address_more a b x grows h.0, type_within_more a b of grows h.1, into_more a b into grows h.2)
 open_more a b (waiting.Elements kind es of) grows h = (elements_more a b es grows h.0, type_within_more a b of grows h.1)
 
 pub stack_more : (a b : Table) (os : List OpenConstant) → Grows a b → All (OpenWithin a) os → All (OpenWithin b) os
@@ -62,3 +79,6 @@ grows_self t = record { names = λ k x e. e; types = λ k x e. e; constants = λ
 -- what is left behind a type is no longer
 pub type_keeps : (known : Known) (ts rest : List TokenV) (of : TypeV) → type_at known ts ≡ Ok (of, rest) → length rest ≤ length ts
 type_keeps known ts rest of e = let less = at_less known ts (of, rest) e in omega arith
+
+pub indexed : (t : Table) (x : Address) (more : List Element) (of value : ℕ) → more ≡ x.indices ++ (record { of = of; value = value }) ∷ [] → AddressWithin t x → of < length t.types → value < length t.constants → AddressWithin t (record { of = x.of; base = x.base; indices = more })
+indexed t x more of value is h lt less = record { of = h.of; base = h.base; indices = rw is (element_pushed t x.indices (record { of = of; value = value }) h.indices lt less) }

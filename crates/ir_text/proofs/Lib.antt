@@ -26,7 +26,9 @@ pub mod ConstantLaws
 pub mod ConstantFuel
 pub mod ConstantSteps
 pub mod ConstantTurns
+pub mod IndexLaws
 pub mod LaidOut
 pub mod MemoryTypeLaws
+pub mod Apart
 pub mod Bodies
 pub mod MemoryLaws

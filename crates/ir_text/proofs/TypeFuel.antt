@@ -15,7 +15,7 @@ use Rattle.ir_text.proofs.Agreeing.{bind_agree, keeps, Agree, Shortens, mark_kee
 use Rattle.ir_text.proofs.TypeLaws.{a_header, header_laws, type_opens, depth_laws}
 
 module _ (known : Known) where
-  to_less : (k : ℕ) → Shortens (type_to known k)
+  pub to_less : (k : ℕ) → Shortens (type_to known k)
   to_less k ts x e = shortens 0 anything (type_to known k) (a_type known) (depth_laws known 0 k (omega arith)) (λ a ws s. let o = type_opens known a ws s in omega (arith, ap length o.parts)) ts x e
 
   header_keeps : (ts : List TokenV) (x : ℕ × List TokenV) → header_at ts ≡ Ok x → length x.1 ≤ length ts

@@ -12,9 +12,11 @@ pub mod Named
 pub mod MemoryTypes
 pub mod Nested
 pub mod Constants
+pub mod Indices
 pub mod NestedConstants
 pub mod ConstantSpelled
 pub mod OpenConstants
+pub mod IndexNodes
 pub mod Operands
 pub mod TypeSpelled
 pub mod Spelled

@@ -139,6 +139,56 @@ fn reads_constants(rt: HostRuntime) -> Result<(), Fail> {
 }
 
 #[test]
+fn reads_addresses(rt: HostRuntime) -> Result<(), Fail> {
+    for (text, want) in [
+        (
+            "getelementptr inbounds ([4 x i8], ptr @s, i64 0, i64 1)",
+            "@0;0:64;1:64;address 1 0 2=1 3=2 ); 0",
+        ),
+        (
+            "getelementptr nuw inbounds ({ i8, i32 }, ptr @s, i32 0, i32 1),",
+            "@0;0:32;1:32;address 2 0 3=1 4=2 ); 1",
+        ),
+        (
+            "getelementptr (i8, ptr getelementptr (i8, ptr @a, i64 1), i64 2)",
+            "@0;1:64;address 1 0 2=1 );2:64;address 0 2 3=3 ); 0",
+        ),
+        (
+            "getelementptr ({ i8 }, ptr null, i64 0, i32\n1)",
+            "number 2",
+        ),
+        (
+            "getelementptr ({ i8 }, ptr null, i64 0,\ni64 0)",
+            "operand 2",
+        ),
+        (
+            "getelementptr ({ i8 }, ptr null, i64 0, i32\n@x)",
+            "operand 2",
+        ),
+        ("getelementptr (i8, ptr null, i64 0,\ni64 1)", "operand 2"),
+        ("getelementptr (i8, ptr null\n)", "operand 2"),
+        ("getelementptr (\ni24, ptr null, i64 0)", "layout 2"),
+        ("getelementptr (i8,\ni64 0, i64 0)", "operand 2"),
+        ("getelementptr (i8, ptr null,\nptr 0)", "operand 2"),
+        ("getelementptr exact (i8, ptr null, i64 0)", "operand 1"),
+        ("getelementptr (%t, ptr null, i64 0)", "bad-type 1"),
+        (
+            "getelementptr (i8, ptr null, i64 undef)",
+            "out-of-profile 1",
+        ),
+        ("getelementptr inbounds", "end"),
+        ("getelementptr (i8, ptr @a, i64 1", "end"),
+    ] {
+        assert_eq!(rt;
+            shown(&rt, rt.alloc(), text.as_bytes())?.as_str(),
+            want,
+            "{text}"
+        );
+    }
+    Ok(())
+}
+
+#[test]
 fn reads_deep_constants(rt: HostRuntime) -> Result<(), Fail> {
     let mut text = Vec::new(rt.alloc());
     for _ in 0..200_000 {

@@ -114,6 +114,17 @@ impl<'a> Cursor<'a> {
         self.alloc
     }
 
+    /// The same tokens, for a reading apart.
+    pub fn copy(&self) -> Cursor<'a>
+        ensures { result ≡ self.now }
+    {
+        Cursor {
+            alloc: self.alloc,
+            text: self.text,
+            tokens: self.tokens,
+        }
+    }
+
     /// Takes the next token.
     pub fn next(&mut self) -> Option<Lexeme<'a>>
         ensures { MatchOption result ((self.old ≡ []) × (self.new ≡ [])) (λ l. self.old ≡ l ∷ self.new) }

@@ -6,6 +6,7 @@ mod constant_tests;
 pub mod constants;
 pub mod cursor;
 pub mod fault;
+pub mod indices;
 pub mod layouts;
 pub mod leaves;
 pub mod memory_types;

@@ -1,18 +1,22 @@
 //! Constants, however deep they nest: read by one loop with a stack of what is open.
 
-ghost use Rattle.std.specs.Prelude.{◌≡◌, ◌<◌, ◌≤◌, ◌∷◌, length, map, IfOk, OnOk};
+ghost use Rattle.std.specs.Prelude.{◌≡◌, ◌<◌, ◌≤◌, ◌∷◌, length, map, option_map, IfOk, OnOk};
 ghost use Rattle.int_num.specs.Integer.{IsWidth};
 ghost use Rattle.ir_tree.specs.Table.{Table};
 ghost use Rattle.ir_tree.specs.Naming.{Grows, ElementWithin, ElementsWithin, constant_at, type_at};
 ghost use Rattle.ir_text.specs.Reading.{Reads};
 ghost use Rattle.ir_text.specs.Named.{known_of};
 ghost use Rattle.ir_text.specs.NestedConstants as spec;
-ghost use Rattle.ir_text.specs.OpenConstants.{Steps, brackets, elements_end, elements_from, closing, shown_element, OpenWithin, ReachedWithin};
+ghost use Rattle.ir_text.specs.OpenConstants.{Steps, brackets, elements_end, elements_from, closing, address_close, address_end, counted_end, field_end, fields_of, shown_element, AddressWithin, TypeWithin, OpenWithin, ReachedWithin};
 
 use crate::constants::{simple_constant, width_of};
 use crate::cursor::{Cursor, Lexeme};
 use crate::fault::{Fault, ReadEnd};
+use crate::indices::{
+    Wanted, address_words, field, integer_type, no_index, pointer, wanted_by, word_of_32,
+};
 use crate::leaves::{bad, eat, is_mark, is_word, mark, sees, take};
+use crate::memory_types::read_lone_memory_type;
 use crate::named::NamedTypes;
 use crate::nested::read_type;
 use ir_lex::token::{Cause, TokenKind};
@@ -31,9 +35,21 @@ pub enum Bracket {
     Packed,
 }
 
+/// A constant address with the indices so far.
+#[derive(Drop)]
+pub struct Address {
+    pub of: TypeId,
+    pub base: ConstantId,
+    pub indices: List<Element>,
+}
+
 /// What waits for a constant inside it.
 #[derive(Drop)]
 pub enum OpenConstant {
+    /// An address of a type, before its pointer.
+    Base(TypeId),
+    /// An address before an index of this type, and the type into which the next goes, unless that is faulty.
+    Index(Address, TypeId, Option<TypeId>),
     /// Brackets with the elements so far, behind the type of the next.
     Elements {
         bracket: Bracket,
@@ -48,6 +64,8 @@ pub enum Reached {
     Done(ConstantId),
     /// The tokens go on with a constant inside, at a width.
     Opened(OpenConstant, u32),
+    /// The tokens go on behind an index, and the next goes into this type.
+    Going(Address, Option<TypeId>),
 }
 
 /// The mark that closes the elements.
@@ -163,6 +181,25 @@ fn text(cursor: &mut Cursor<'_>, names: &mut Names) -> Result<ConstantId, ReadEn
     }
 }
 
+/// The type of an address up to its pointer: `WORDS (T, ptr`.
+fn address_start(
+    cursor: &mut Cursor<'_>,
+    names: &mut Names,
+    known: &NamedTypes,
+) -> Result<TypeId, ReadEnd>
+    ensures reads { (later : Table) → Grows names.new later → Reads (type_at later) cursor.new result (spec.address_start (known_of later known.now) cursor.old) }
+    ensures within { IfOk result (λ k. k < length names.new.types) }
+    ensures grows { Grows names.old names.new }
+    ensures no_longer { OnOk result (length cursor.new ≤ length cursor.old) }
+{
+    address_words(cursor);
+    mark(cursor, b'(')?;
+    let of = read_lone_memory_type(cursor, names, known)?;
+    mark(cursor, b',')?;
+    pointer(cursor, names)?;
+    Ok(of)
+}
+
 /// A constant up to its end, or up to the first constant inside it.
 fn begin(
     cursor: &mut Cursor<'_>,
@@ -190,6 +227,10 @@ fn begin(
     if is_word(&lexeme, b"c") {
         return Ok(Reached::Done(text(cursor, names)?));
     }
+    if is_word(&lexeme, b"getelementptr") {
+        let of = address_start(cursor, names, known)?;
+        return Ok(Reached::Opened(OpenConstant::Base(of), 64));
+    }
     Ok(Reached::Done(simple_constant(cursor, names, &lexeme, width)?))
 }
 
@@ -216,6 +257,86 @@ fn behind_element(
     Ok(Reached::Done(closed(cursor, names, bracket, elements)?))
 }
 
+/// An index of any width up to its value. The next goes into this type.
+fn counted(
+    cursor: &mut Cursor<'_>,
+    names: &mut Names,
+    address: Address,
+    next: Option<TypeId>,
+) -> Result<Reached, ReadEnd>
+    requires address { AddressWithin names.old address }
+    requires next { TypeWithin names.old next }
+    ensures steps { (later : Table) (known : _) → Grows names.new later → Steps known later cursor.new result (counted_end known (type_at later address.of) (constant_at later address.base) (map (shown_element later) address.indices) (option_map (type_at later) next) cursor.old) }
+    ensures within { IfOk result (ReachedWithin names.new) }
+    ensures grows { Grows names.old names.new }
+    ensures shorter { OnOk result (length cursor.new < length cursor.old) }
+{
+    let of = integer_type(cursor, names)?;
+    let width = width_of(names, of);
+    Ok(Reached::Opened(OpenConstant::Index(address, of, next), width))
+}
+
+/// An index that names a field of a struct.
+fn named_field(
+    cursor: &mut Cursor<'_>,
+    names: &mut Names,
+    mut address: Address,
+    of: TypeId,
+) -> Result<Reached, ReadEnd>
+    requires address { AddressWithin names.old address }
+    requires of { of < length names.old.types }
+    ensures steps { (later : Table) (known : _) → Grows names.new later → Steps known later cursor.new result (field_end known (type_at later address.of) (constant_at later address.base) (map (shown_element later) address.indices) (fields_of (type_at later of)) cursor.old) }
+    ensures within { IfOk result (ReachedWithin names.new) }
+    ensures grows { Grows names.old names.new }
+    ensures shorter { OnOk result (length cursor.new < length cursor.old) }
+{
+    let word = word_of_32(cursor, names)?;
+    let (value, next) = field(cursor, names, of)?;
+    address.indices.push(Element { of: word, value })?;
+    Ok(Reached::Going(address, next))
+}
+
+/// The end of an address.
+fn address_closed(
+    cursor: &mut Cursor<'_>,
+    names: &mut Names,
+    address: Address,
+) -> Result<ConstantId, ReadEnd>
+    requires { AddressWithin names.old address }
+    ensures reads { (later : Table) → Grows names.new later → Reads (constant_at later) cursor.new result (address_close (type_at later address.of) (constant_at later address.base) (map (shown_element later) address.indices) cursor.old) }
+    ensures within { IfOk result (λ k. k < length names.new.constants) }
+    ensures grows { Grows names.old names.new }
+    ensures shorter { OnOk result (length cursor.new < length cursor.old) }
+{
+    mark(cursor, b')')?;
+    Ok(names.address(address.of, address.base, address.indices)?)
+}
+
+/// Goes on behind an index. The next goes into this type, unless it is faulty.
+fn behind_index(
+    cursor: &mut Cursor<'_>,
+    names: &mut Names,
+    known: &NamedTypes,
+    address: Address,
+    into: Option<TypeId>,
+) -> Result<Reached, ReadEnd>
+    requires address { AddressWithin names.old address }
+    requires into { TypeWithin names.old into }
+    ensures steps { (later : Table) → Grows names.new later → Steps (known_of later known.now) later cursor.new result (address_end (known_of later known.now) (type_at later address.of) (constant_at later address.base) (map (shown_element later) address.indices) (option_map (type_at later) into) cursor.old) }
+    ensures within { IfOk result (ReachedWithin names.new) }
+    ensures grows { Grows names.old names.new }
+    ensures shorter { OnOk result (length cursor.new < length cursor.old) }
+{
+    if !eat(cursor, b',') {
+        return Ok(Reached::Done(address_closed(cursor, names, address)?));
+    }
+    match wanted_by(names, known, into)? {
+        Wanted::Counted(next) => counted(cursor, names, address, next),
+        Wanted::Field(of) => named_field(cursor, names, address, of),
+        Wanted::Never => Err(no_index(cursor, names)),
+    }
+}
+
 /// Goes on behind a constant in what is open round it.
 fn end(
     waits: OpenConstant,
@@ -232,6 +353,20 @@ fn end(
     ensures shorter { OnOk result (length cursor.new < length cursor.old) }
 {
     match waits {
+        OpenConstant::Base(of) => {
+            mark(cursor, b',')?;
+            let indices = List::new(cursor.alloc());
+            let address = Address {
+                of,
+                base: inside,
+                indices,
+            };
+            counted(cursor, names, address, Some(of))
+        }
+        OpenConstant::Index(mut address, of, next) => {
+            address.indices.push(Element { of, value: inside })?;
+            behind_index(cursor, names, known, address, next)
+        }
         OpenConstant::Elements {
             bracket,
             elements,
@@ -264,6 +399,7 @@ pub fn read_constant(
                 stack.push(open)?;
                 begin(cursor, names, known, inside)?
             }
+            Reached::Going(address, into) => behind_index(cursor, names, known, address, into)?,
             Reached::Done(k) => match stack.pop() {
                 None => return Ok(k),
                 Some(open) => end(open, k, cursor, names, known)?,

@@ -2,7 +2,7 @@ use Rattle.std.proofs.Common.{◌∙◌, refl, sym}
 use Rattle.std.proofs.lemmas.Result.{err_from_is_err_and}
 use Rattle.ir_text.specs.Named.{known_of}
 use Rattle.ir_text.proofs.NestedSteps.{bind_fails, fails_is}
-use Rattle.ir_text.proofs.ConstantSteps.{opens_nothing, opens_array, opens_struct, opens_packed, opens_text, opens_simple}
+use Rattle.ir_text.proofs.ConstantSteps.{opens_nothing, opens_array, opens_struct, opens_packed, opens_text, opens_address, opens_simple}
 use Rattle.ir_text.proofs.nested_constants.begin.Goals as goal
 
 pub returns-in_err-lexeme-clause-steps : goal.returns-in_err-lexeme-clause-steps
@@ -40,8 +40,17 @@ returns-then-is_word-clause-steps c = λ later grows.
 pub returns-in_err-simple_constant-clause-steps : goal.returns-in_err-simple_constant-clause-steps
 returns-in_err-simple_constant-clause-steps c = λ later grows.
     let p = err_from_is_err_and c.from_residual-in_err-simple_constant.result c.from_residual-in_err-simple_constant.ensures.1 in
-    rw (p.1, p.2) (fails_is _ _ _ (opens_simple (known_of later c.args.known.now) c.args.width _ _ c.in_ok-lexeme.lexeme c.in_ok-lexeme.ensures (sym c.is_mark.ensures ∙ c.if-is_mark.false) (sym c.is_mark-2.ensures ∙ c.if-is_mark-2.false) (sym c.is_mark-3.ensures ∙ c.if-is_mark-3.false) (sym c.is_word.ensures ∙ c.if-is_word.false)) (c.in_err-simple_constant.ensures.reads later _ grows))
+    rw (p.1, p.2) (fails_is _ _ _ (opens_simple (known_of later c.args.known.now) c.args.width _ _ c.in_ok-lexeme.lexeme c.in_ok-lexeme.ensures (sym c.is_mark.ensures ∙ c.if-is_mark.false) (sym c.is_mark-2.ensures ∙ c.if-is_mark-2.false) (sym c.is_mark-3.ensures ∙ c.if-is_mark-3.false) (sym c.is_word.ensures ∙ c.if-is_word.false) (sym c.is_word-2.ensures ∙ c.if-is_word-2.false)) (c.in_err-simple_constant.ensures.reads later _ grows))
 
 pub returns-clause-steps : goal.returns-clause-steps
 returns-clause-steps c = λ later grows.
-    opens_simple (known_of later c.args.known.now) c.args.width _ _ c.in_ok-lexeme.lexeme c.in_ok-lexeme.ensures (sym c.is_mark.ensures ∙ c.if-is_mark.false) (sym c.is_mark-2.ensures ∙ c.if-is_mark-2.false) (sym c.is_mark-3.ensures ∙ c.if-is_mark-3.false) (sym c.is_word.ensures ∙ c.if-is_word.false) ∙ c.in_ok-simple_constant.ensures.reads later _ grows
+    opens_simple (known_of later c.args.known.now) c.args.width _ _ c.in_ok-lexeme.lexeme c.in_ok-lexeme.ensures (sym c.is_mark.ensures ∙ c.if-is_mark.false) (sym c.is_mark-2.ensures ∙ c.if-is_mark-2.false) (sym c.is_mark-3.ensures ∙ c.if-is_mark-3.false) (sym c.is_word.ensures ∙ c.if-is_word.false) (sym c.is_word-2.ensures ∙ c.if-is_word-2.false) ∙ c.in_ok-simple_constant.ensures.reads later _ grows
+
+pub returns-in_err-of-clause-steps : goal.returns-in_err-of-clause-steps
+returns-in_err-of-clause-steps c = λ later grows.
+    let p = err_from_is_err_and c.from_residual-in_err-of.result c.from_residual-in_err-of.ensures.1 in
+    rw (p.1, p.2) (fails_is _ _ _ (opens_address (known_of later c.args.known.now) c.args.width _ _ c.in_ok-lexeme.lexeme c.in_ok-lexeme.ensures (sym c.is_mark.ensures ∙ c.if-is_mark.false) (sym c.is_mark-2.ensures ∙ c.if-is_mark-2.false) (sym c.is_mark-3.ensures ∙ c.if-is_mark-3.false) (sym c.is_word.ensures ∙ c.if-is_word.false) (sym c.is_word-2.ensures ∙ c.if-is_word-2.true)) (bind_fails _ _ _ (c.in_err-of.ensures.reads later grows)))
+
+pub returns-then-is_word-2-clause-steps : goal.returns-then-is_word-2-clause-steps
+returns-then-is_word-2-clause-steps c = λ later grows.
+    opens_address (known_of later c.args.known.now) c.args.width _ _ c.in_ok-lexeme.lexeme c.in_ok-lexeme.ensures (sym c.is_mark.ensures ∙ c.if-is_mark.false) (sym c.is_mark-2.ensures ∙ c.if-is_mark-2.false) (sym c.is_mark-3.ensures ∙ c.if-is_mark-3.false) (sym c.is_word.ensures ∙ c.if-is_word.false) (sym c.is_word-2.ensures ∙ c.if-is_word-2.true) ∙ rw (c.in_ok-of.ensures.reads later grows) refl
