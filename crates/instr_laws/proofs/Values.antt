@@ -204,7 +204,7 @@ constant_begins known w (TextC bytes) ws s = word_begins (codes "c") _ ws refl s
 constant_begins known w (ArrayC elements) ws s = mark_begins 91 _ ws square s
 constant_begins known w (StructC false fields) ws s = mark_begins 123 _ ws brace s
 constant_begins known w (StructC true fields) ws s = mark_begins 60 _ ws angle s
-constant_begins known w (AddressC of base indices) ws s = absurd s
+constant_begins known w (AddressC of base indices) ws s = word_begins (codes "getelementptr") _ ws refl s
 
 register_begins_by : (k : TokenKind) (t : TokenV) (o : Value) → register_by k t ≡ Ok o → begins_by k t ≡ true
 unfolding begins_by
@@ -309,7 +309,7 @@ constant_alone known w (TextC bytes) t ws e s = absurd (no_word (codes "c") _ t 
 constant_alone known w (ArrayC elements) t ws e s = absurd (no_mark 91 _ t ws e s)
 constant_alone known w (StructC false fields) t ws e s = absurd (no_mark 123 _ t ws e s)
 constant_alone known w (StructC true fields) t ws e s = absurd (no_mark 60 _ t ws e s)
-constant_alone known w (AddressC of base indices) t ws e s = absurd s
+constant_alone known w (AddressC of base indices) t ws e s = absurd (no_word (codes "getelementptr") _ t ws e s)
 
 pub number_alone : (known : Known) (of : TypeV) (o : Value) (t : TokenV) (ws : List TokenV) → is_integer t ≡ true → an_operand known of o (t ∷ ws) → ws ≡ []
 number_alone known of o t ws e (inl s) =

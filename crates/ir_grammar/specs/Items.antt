@@ -104,12 +104,16 @@ item_words = codes "declare" ∷ codes "define" ∷ codes "source_filename" ∷ 
 abbrev pub declared_function : Header → Function Name TypeV ConstantV
 declared_function h = record { name = h.name; result = h.result; params = h.params.params; variadic = h.params.variadic; blocks = []; declared = true }
 
+-- the words behind a declaration, up to one that begins an item
+abbrev pub words_behind : Reader (Unit {0})
+words_behind = words_at (stops item_words false)
+
 -- behind `declare`
 abbrev pub declaration_at : List Name → Reader (Function Name TypeV ConstantV)
 declaration_at values ts = do
   notes ← notes_at ts
   header ← header_at true values notes.1
-  words ← words_at (stops item_words false) header.1
+  words ← words_behind header.1
   attached ← attached_at words.1
   Ok (declared_function header.0, attached.1)
 

@@ -3,11 +3,11 @@ use Rattle.std.specs.Prelude.{ℕ, ◌+◌, fold, List, [], Option, Some, None}
 use Rattle.pv_base.specs.declared.name.Name.{Name}
 use Rattle.pv_base.specs.declared.name.Name.TheVariants.{Named, Numbered}
 use Rattle.ir_tree.specs.declared.instruction.Instruction.{Instruction}
-use Rattle.ir_tree.specs.declared.instruction.Instruction.TheVariants as instruction
 use Rattle.ir_tree.specs.declared.items.Param.{Param}
 use Rattle.ir_tree.specs.declared.items.Block.{Block}
 use Rattle.ir_tree.specs.Table.{with_name}
 use Rattle.ir_tree.specs.Trees.{TypeV, ConstantV}
+pub use Rattle.ir_instr.specs.Results.{result_of}
 
 -- The number at which the counter stands that unnamed arguments, blocks and results share, and the names that the function
 -- has defined: its values and its labels are one set.
@@ -27,25 +27,6 @@ counted next (Named text) = next
 -- with a name that is defined
 abbrev pub defining : Scope → Name → Scope
 defining scope name = record { next = counted scope.next name; defined = with_name scope.defined name }
-
--- the name of an instruction's result
-abbrev pub result_of : {N T C : Type 0} → Instruction N T C → Option N
-result_of (instruction.Binary to op flags of left right) = Some to
-result_of (instruction.Cast to op flags of value target) = Some to
-result_of (instruction.Freeze to of value) = Some to
-result_of (instruction.Compare to pred of left right) = Some to
-result_of (instruction.Select to condition of on_true on_false) = Some to
-result_of (instruction.Phi to of arms) = Some to
-result_of (instruction.Alloca to of count) = Some to
-result_of (instruction.Load to of pointer) = Some to
-result_of (instruction.Store of value pointer) = None
-result_of (instruction.Address to inbounds of base indices) = Some to
-result_of (instruction.Call to of variadic what arguments) = to
-result_of (instruction.Return value) = None
-result_of (instruction.Jump target) = None
-result_of (instruction.Branch condition on_true on_false) = None
-result_of (instruction.Switch of value default cases) = None
-result_of instruction.Unreachable = None
 
 abbrev pub defining_some : Scope → Option Name → Scope
 defining_some scope (Some name) = defining scope name

@@ -19,3 +19,4 @@ pub mod Gathering
 pub mod Switching
 pub mod Placing
 pub mod Dispatch
+pub mod Ends

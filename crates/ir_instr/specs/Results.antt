@@ -1,10 +1,10 @@
 -- What instructions define.
-use Rattle.std.specs.Prelude.{ℕ, Option, Some, None}
+use Rattle.std.specs.Prelude.{Option, Some, None}
 use Rattle.ir_tree.specs.declared.instruction.Instruction.{Instruction}
 use Rattle.ir_tree.specs.declared.instruction.Instruction.TheVariants as instruction
 
--- the number of the name that an instruction defines
-abbrev pub result_of : Instruction ℕ ℕ ℕ → Option ℕ
+-- the name that an instruction defines, or its number
+abbrev pub result_of : {N T C : Type 0} → Instruction N T C → Option N
 result_of (instruction.Binary to op flags of left right) = Some to
 result_of (instruction.Cast to op flags of value target) = Some to
 result_of (instruction.Freeze to of value) = Some to

@@ -14,6 +14,9 @@ pub mod instructions;
 pub mod memory;
 pub mod naming;
 pub mod parts;
+pub mod reading;
 pub mod selecting;
 pub mod switching;
+#[cfg(test)]
+mod tests;
 pub mod words;
