@@ -1,5 +1,5 @@
 -- Parameters, one after the other.
-use Rattle.std.proofs.Common.{◌≡◌, ℕ, suc, Bool, true, false, List, [], ◌∷◌, ◌++◌, drop, map, Result, Ok, Err, refl, sym, ap, ◌∙◌, append_assoc}
+use Rattle.std.proofs.Common.{◌≡◌, ℕ, suc, Bool, true, false, List, [], ◌∷◌, ◌++◌, drop, Ok, Err, refl, sym, ap, ◌∙◌, append_assoc}
 use Rattle.std.proofs.lemmas.List.{append-nil}
 use Rattle.pv_base.specs.declared.name.Name.{Name}
 use Rattle.ir_tree.specs.declared.items.Param.{Param}
@@ -11,8 +11,8 @@ use Rattle.ir_text.specs.Tokens.{TokenV, is_mark, is_points}
 use Rattle.ir_text.specs.Reading.{Outcome, ◌>>=◌, next_is, token_by, Fails}
 use Rattle.ir_text.proofs.Eaten.{eaten}
 use Rattle.ir_grammar.specs.Scopes.{Scope, after_param}
-use Rattle.ir_grammar.specs.Headers.{Params, with_param, no_params, points_by, param_at, entries_to}
-use Rattle.ir_reader.specs.Heads.{behind_params, with_params}
+use Rattle.ir_grammar.specs.Headers.{Params, with_param, points_by, param_at, entries_to}
+use Rattle.ir_reader.specs.Heads.{behind_params}
 
 none_behind : (front : List (Param Name TypeV)) (read : Outcome Params) → behind_params [] read ≡ read
 none_behind front (Ok x) = refl

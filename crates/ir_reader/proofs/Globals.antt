@@ -1,5 +1,5 @@
 -- Types of globals.
-use Rattle.std.proofs.Common.{◌≡◌, ℕ, ◌+◌, ◌<◌, ◌≤◌, Bool, true, false, cond, List, [], ◌∷◌, Option, length, Ok, Err, refl, sym, ap, ◌∙◌}
+use Rattle.std.proofs.Common.{◌≡◌, ℕ, ◌+◌, ◌<◌, true, false, cond, List, [], ◌∷◌, Option, length, Ok, Err, refl, sym, ap, ◌∙◌}
 use Rattle.ir_lex.specs.declared.token.Cause.TheVariants as causes
 use Rattle.pv_base.specs.declared.name.Name.{Name}
 use Rattle.ir_tree.specs.declared.layout.Layout.{Layout}

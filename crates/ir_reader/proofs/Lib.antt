@@ -7,3 +7,10 @@ pub mod Results
 pub mod Keeping
 pub mod Blocks
 pub mod Globals
+pub mod Fronts
+pub mod Knowing
+pub mod Lines
+pub mod Gathering
+pub mod ItemTurns
+pub mod Wording
+pub mod Settling

@@ -1,6 +1,6 @@
 -- Names among others, by their numbers.
-use Rattle.std.proofs.Common.{◌≡◌, ℕ, ◌<◌, Bool, true, false, cond, List, [], ◌∷◌, ◌++◌, length, map, All, Ok, Err, refl, sym, ap, subst, ◌∙◌}
-use Rattle.std.specs.Prelude.{nat_eq, ◌||◌}
+use Rattle.std.proofs.Common.{◌≡◌, ℕ, ◌<◌, Bool, true, false, cond, List, [], ◌∷◌, ◌++◌, length, map, Ok, Err, refl, sym, ap, ◌∙◌}
+use Rattle.std.specs.Prelude.{nat_eq}
 use Rattle.std.specs.List.{list_any, AllByRecursion}
 use Rattle.std.proofs.lemmas.List.{map-append}
 use Rattle.std.proofs.lemmas.List.Elements.{recursion_from_All}
@@ -8,7 +8,6 @@ use Rattle.pv_base.specs.declared.name.Name.{Name}
 use Rattle.ir_tree.specs.Table.{Table, IsTable, same_name, name_among, with_name}
 use Rattle.ir_tree.specs.Naming.{Grows, name_at}
 use Rattle.ir_tree.proofs.Bodies.{each_same}
-use Rattle.ir_tree.proofs.Showing.{grows_then, name_within_more}
 use Rattle.std.proofs.lemmas.Option.{get_or_from_slice_get, slice_get-get_or}
 use Rattle.pv_base.specs.declared.name.Name.TheVariants.{Numbered}
 use Rattle.ir_lex.specs.declared.token.Cause.{Cause}

@@ -1,7 +1,6 @@
 -- What an instruction defines, written out and by number.
-use Rattle.std.proofs.Common.{◌≡◌, ℕ, Option, Some, None, refl, sym, ap, ◌∙◌}
+use Rattle.std.proofs.Common.{◌≡◌, ℕ, Some, None, refl}
 use Rattle.std.specs.Prelude.{option_map}
-use Rattle.pv_base.specs.declared.name.Name.{Name}
 use Rattle.ir_tree.specs.declared.instruction.Instruction.{Instruction}
 use Rattle.ir_tree.specs.declared.instruction.Instruction.TheVariants as instruction
 use Rattle.ir_tree.specs.Table.{Table}

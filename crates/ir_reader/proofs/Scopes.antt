@@ -1,10 +1,9 @@
 -- Scopes, with one more name.
-use Rattle.std.proofs.Common.{◌≡◌, ℕ, ◌<◌, List, length, map, slice_get, Option, Some, None, Result, Ok, Err, get_or, refl, sym, ap, ◌∙◌}
+use Rattle.std.proofs.Common.{◌≡◌, ℕ, ◌<◌, List, length, map, slice_get, Some, None, Result, Ok, Err, get_or, refl}
 use Rattle.std.specs.Prelude.{OnOk}
 use Rattle.std.proofs.lemmas.Option.{slice_get-get_or}
 use Rattle.pv_base.specs.declared.name.Name.{Name}
 use Rattle.pv_base.specs.declared.name.Name.TheVariants.{Numbered}
-use Rattle.pv_base.specs.declared.want.Memory.{Memory}
 use Rattle.ir_tree.specs.Table.{Table, IsTable}
 use Rattle.ir_tree.specs.Naming.{Grows, name_at}
 use Rattle.ir_text.proofs.Later.{named_later}

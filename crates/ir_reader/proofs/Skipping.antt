@@ -1,10 +1,10 @@
 -- What is passed over, a token or an item at a time.
-use Rattle.std.proofs.Common.{◌≡◌, ℕ, zero, suc, Bool, true, false, List, [], ◌∷◌, Result, Ok, Err, refl, sym, ap, ◌∙◌}
+use Rattle.std.proofs.Common.{◌≡◌, ℕ, zero, suc, true, false, List, [], ◌∷◌, Ok, Err, refl}
 use Rattle.ir_text.specs.declared.fault.Fault.TheVariants.{Ended}
 use Rattle.ir_text.specs.declared.fault.ReadEnd.{ReadEnd}
 use Rattle.ir_text.specs.declared.fault.ReadEnd.TheVariants as ends
 use Rattle.ir_text.specs.Tokens.{TokenV, is_mark}
-use Rattle.ir_text.specs.Reading.{Outcome, next_is, Fails}
+use Rattle.ir_text.specs.Reading.{next_is, Fails}
 use Rattle.ir_text.specs.Passed.{is_string, is_opening, group_from}
 use Rattle.ir_grammar.specs.PassedItems.{to_string, to_group, attached_one, attached_to}
 

@@ -1,5 +1,5 @@
 -- The heads of functions, by number.
-use Rattle.std.specs.Prelude.{ℕ, ◌<◌, length, map, option_map, List, ◌++◌, Ok, IfSome}
+use Rattle.std.specs.Prelude.{ℕ, ◌<◌, length, map, List, ◌++◌, Ok, IfSome}
 use Rattle.pv_base.specs.declared.name.Name.{Name}
 use Rattle.ir_tree.specs.declared.items.Param.{Param}
 use Rattle.ir_tree.specs.Table.{Table}

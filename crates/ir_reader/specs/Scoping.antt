@@ -1,5 +1,5 @@
 -- Scopes by number.
-use Rattle.std.specs.Prelude.{ℕ, map}
+use Rattle.std.specs.Prelude.{map}
 use Rattle.ir_tree.specs.Table.{Table}
 use Rattle.ir_tree.specs.Naming.{name_at}
 use Rattle.ir_grammar.specs.Scopes as grammar

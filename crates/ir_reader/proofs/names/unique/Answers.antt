@@ -1,7 +1,5 @@
-use Rattle.std.proofs.Common.{◌≡◌, ◌∙◌, sym, ap, Ok, Err, length}
+use Rattle.std.proofs.Common.{◌∙◌, sym}
 use Rattle.ir_lex.specs.declared.token.Cause.TheVariants as causes
-use Rattle.ir_tree.specs.Naming.{name_at}
-use Rattle.ir_text.specs.Reading.{Fails, meant}
 use Rattle.ir_instr.proofs.Kept.{names_kept}
 use Rattle.ir_reader.proofs.Naming.{given_before, given_first, blamed_fails}
 use Rattle.ir_reader.proofs.names.unique.Goals as goal

@@ -1,11 +1,10 @@
-use Rattle.std.proofs.Common.{◌≡◌, ◌-◌, ◌+◌, suc, length, map, List, [], ◌∷◌, ◌++◌, arith, sym, ◌∙◌, ap, subst, true, false}
-use Rattle.std.specs.Prelude.{fold}
+use Rattle.std.proofs.Common.{◌≡◌, ◌-◌, ◌+◌, suc, length, map, [], ◌∷◌, arith, sym, ◌∙◌}
 use Rattle.std.proofs.lemmas.Result.{err_from_is_err_and}
 use Rattle.std.proofs.lemmas.List.{map_push}
 use Rattle.std.proofs.lemmas.List.Sums.{fold-append}
 use Rattle.ir_tree.specs.Shown.{shown_param}
 use Rattle.ir_tree.proofs.Showing.{grows_then}
-use Rattle.ir_grammar.specs.Scopes.{Scope, after_param}
+use Rattle.ir_grammar.specs.Scopes.{after_param}
 use Rattle.ir_reader.specs.Scoping.{scope_at}
 use Rattle.ir_reader.proofs.Entries.{variadic_end, points_fail, param_fails, last_param, goes_on, runs_out}
 use Rattle.ir_reader.proofs.params.entries.Goals as goal

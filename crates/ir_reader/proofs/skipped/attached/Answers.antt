@@ -1,7 +1,5 @@
-use Rattle.std.proofs.Common.{◌≡◌, ◌-◌, ◌+◌, suc, length, arith, sym, ◌∙◌, ap, subst, true, false}
+use Rattle.std.proofs.Common.{◌≡◌, ◌-◌, ◌+◌, suc, length, arith, sym, ◌∙◌}
 use Rattle.std.proofs.lemmas.Result.{err_from_is_err_and}
-use Rattle.ir_text.specs.Reading.{Fails}
-use Rattle.ir_grammar.specs.PassedItems.{attached_one}
 use Rattle.ir_reader.proofs.Skipping.{attached_none, attached_on, attached_last, attached_fails, attached_over}
 use Rattle.ir_reader.proofs.skipped.attached.Goals as goal
 

@@ -1,4 +1,4 @@
-use Rattle.std.proofs.Common.{◌≡◌, ◌∙◌, sym, ap, rules}
+use Rattle.std.proofs.Common.{sym}
 use Rattle.ir_reader.proofs.Scopes.{defined_later, within_some, on_ok_then}
 use Rattle.ir_reader.proofs.scope.Scope.define.Goals as goal
 
