@@ -28,9 +28,9 @@ pub argument_types_shown : (t : Table) (args : List (Argument ℕ ℕ ℕ)) → 
 argument_types_shown t [] = refl
 argument_types_shown t (a ∷ args) = ap (λ l. type_at t a.of ∷ l) (argument_types_shown t args)
 
-pub indices_shown : (t : Table) (args : List (Argument ℕ ℕ ℕ)) → map (λ a. operand_index a.value) (map (shown_argument t) args) ≡ map (λ a. operand_index (shown_operand t a.value)) args
+pub indices_shown : (t : Table) (args : List (Argument ℕ ℕ ℕ)) → map (λ a. operand_index a.of a.value) (map (shown_argument t) args) ≡ map (λ a. operand_index (type_at t a.of) (shown_operand t a.value)) args
 indices_shown t [] = refl
-indices_shown t (a ∷ args) = ap (λ l. operand_index (shown_operand t a.value) ∷ l) (indices_shown t args)
+indices_shown t (a ∷ args) = ap (λ l. operand_index (type_at t a.of) (shown_operand t a.value) ∷ l) (indices_shown t args)
 
 and_true : (b : Bool) → (b && true) ≡ b
 and_true true = refl

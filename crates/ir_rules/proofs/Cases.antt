@@ -368,6 +368,11 @@ global_of_address : first_fault (holding PtrV (AddressC (NamedV (n "T")) (NameC 
 unfolding first_fault spots_in is_terminator is_phi uses targets sources result_of integer_types calls_known form_fits phi_fits alloca_fits call_allowed empty_at same_type same_types same_constant same_elements names_known all_known written_types type_count are_all indices_of all_integers holds_together all_together step_into params_fit is_external known named width_of width_behind extreme
 global_of_address = refl
 
+-- a constant address with an index of a struct that is no `i32`
+global_of_wide_address : first_fault (holding PtrV (AddressC (NamedV (n "T")) (NameC (n "g")) (MoreC (IntV 32) (integer 32 0) (MoreC (IntV 64) (integer 64 1) (MoreC (IntV 64) (integer 64 1) NoneC))))) ≡ of_global 0 cause.TypeDiffers
+unfolding first_fault spots_in is_terminator is_phi uses targets sources result_of integer_types calls_known form_fits phi_fits alloca_fits call_allowed empty_at same_type same_types same_constant same_elements names_known all_known written_types type_count are_all indices_of all_integers holds_together all_together step_into params_fit is_external known named width_of width_behind extreme
+global_of_wide_address = refl
+
 -- a constant address with an index into an integer
 global_of_deep_address : first_fault (holding PtrV (AddressC (NamedV (n "T")) (NameC (n "g")) (MoreC (IntV 32) (integer 32 0) (MoreC (IntV 32) (integer 32 0) (MoreC (IntV 64) (integer 64 0) NoneC))))) ≡ of_global 0 cause.TypeDiffers
 unfolding first_fault spots_in is_terminator is_phi uses targets sources result_of integer_types calls_known form_fits phi_fits alloca_fits call_allowed empty_at same_type same_types same_constant same_elements names_known all_known written_types type_count are_all indices_of all_integers holds_together all_together step_into params_fit is_external known named width_of width_behind extreme

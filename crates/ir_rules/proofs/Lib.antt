@@ -2,7 +2,7 @@ pub mod Cases
 pub mod TypeLemmas
 pub mod SameLemmas
 pub mod ClassLemmas
-pub mod NamedLemmas
+pub mod TypeKeyLemmas
 pub mod PathLemmas
 pub mod ConstantLemmas
 pub mod FlagLemmas

@@ -22,10 +22,10 @@ unfolding all_together
 elements_are m type at [] = refl
 elements_are m type at (e ∷ es) = ap (λ b. has_form m (type e.of) (at e.value) && holds_together m (at e.value) && b) (elements_are m type at es)
 
-pub indices_are : (type : ℕ → TypeV) (at : ℕ → ConstantV) (es : List Element) → indices_of (elements_by type at es) ≡ map (λ e. constant_index (at e.value)) es
+pub indices_are : (type : ℕ → TypeV) (at : ℕ → ConstantV) (es : List Element) → indices_of (elements_by type at es) ≡ map (λ e. constant_index (type e.of) (at e.value)) es
 unfolding indices_of
 indices_are type at [] = refl
-indices_are type at (e ∷ es) = ap (λ l. constant_index (at e.value) ∷ l) (indices_are type at es)
+indices_are type at (e ∷ es) = ap (λ l. constant_index (type e.of) (at e.value) ∷ l) (indices_are type at es)
 
 pub integers_at : (t : Table) (at : ℕ → ConstantV) (es : List Element) → all_integers (written_types (elements_by (type_at t) at es)) ≡ list_all (λ e. is_integer (type_at t e.of)) es
 integers_at t at es = ap all_integers (written_is t at es) ∙ integers_are t es

@@ -76,14 +76,14 @@ abbrev pub callee_fits : ModuleV → CalleeV → TypeV → Bool → List Argumen
 callee_fits m (callee.Function name) of variadic arguments = named_call_fits (function_named m name) of variadic arguments
 callee_fits m (callee.Pointer name) of variadic arguments = not variadic
 
-abbrev pub operand_index : OperandV → Option ℕ
-operand_index (operand.Register name) = None
-operand_index (operand.Constant c) = constant_index c
+abbrev pub operand_index : TypeV → OperandV → Option ℕ
+operand_index type (operand.Register name) = None
+operand_index type (operand.Constant c) = constant_index type c
 
 -- what a form asks beyond its operands
 unfoldable pub form_fits : ModuleV → FunctionV → InstructionV → Bool
 form_fits m f (instruction.Cast to op flags of value target) = cast_fits op of target
-form_fits m f (instruction.Address to inbounds of base indices) = agrees (path m.types of (map (λ a. operand_index a.value) indices))
+form_fits m f (instruction.Address to inbounds of base indices) = agrees (path m.types of (map (λ a. operand_index a.of a.value) indices))
 form_fits m f (instruction.Call to of variadic what arguments) = callee_fits m what of variadic arguments
 form_fits m f (instruction.Return value) = returns_fit f.result value
 form_fits m f i = true

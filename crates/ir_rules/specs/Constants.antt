@@ -1,5 +1,5 @@
 -- Constants at their types, after the LLVM Language Reference, "Constants".
-use Rattle.std.specs.Prelude.{ℕ, suc, Bool, true, false, ◌&&◌, nat_eq, List, [], ◌∷◌, length, Option, Some, None, zero}
+use Rattle.std.specs.Prelude.{ℕ, suc, Bool, true, false, ◌&&◌, nat_eq, List, [], ◌∷◌, length, Option, Some, None, zero, if◌then◌else◌}
 use Rattle.std.specs.List.{list_all}
 use Rattle.pv_base.specs.declared.name.Name.{Name}
 use Rattle.int_num.specs.Integer.{Integer}
@@ -75,15 +75,19 @@ has_form m type (StructC packed elements) = fields_fit packed (fields_of m.types
 has_form m type (NameC name) = is_pointer type
 has_form m type (AddressC of base indices) = is_pointer type
 
--- the number of an index that is a constant integer
-abbrev pub constant_index : ConstantV → Option ℕ
-constant_index (IntegerC n) = Some n.bits
-constant_index ZeroC = Some 0
-constant_index c = None
+-- the number that a constant integer is, `zeroinitializer` among them
+abbrev pub constant_bits : ConstantV → Option ℕ
+constant_bits (IntegerC n) = Some n.bits
+constant_bits ZeroC = Some 0
+constant_bits c = None
+
+-- the number of an index into a struct, which is a constant `i32`
+abbrev pub constant_index : TypeV → ConstantV → Option ℕ
+constant_index type c = if has_width 32 type then constant_bits c else None
 
 unfoldable pub indices_of : ElementsV → List (Option ℕ)
 indices_of NoneC = []
-indices_of (MoreC type c rest) = constant_index c ∷ indices_of rest
+indices_of (MoreC type c rest) = constant_index type c ∷ indices_of rest
 
 unfoldable pub all_integers : TypesV → Bool
 all_integers NoneV = true

@@ -13,5 +13,6 @@ pub mod Reading
 pub mod Checked
 pub mod Heads
 pub mod Classes
+pub mod TypeKeys
 pub mod Outer
 pub mod Edges

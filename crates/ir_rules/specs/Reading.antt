@@ -91,7 +91,7 @@ case_bits (IntegerC n) = n.bits
 case_bits c = 0
 
 unfoldable pub indices_stand : List (NamedType Name TypeV) → InstructionV → Bool
-indices_stand types (instruction.Address to inbounds of base indices) = is_inside (path types of (map (λ a. operand_index a.value) indices))
+indices_stand types (instruction.Address to inbounds of base indices) = is_inside (path types of (map (λ a. operand_index a.of a.value) indices))
 indices_stand types i = true
 
 abbrev pub instruction_stands : List (NamedType Name TypeV) → InstructionV → Bool

@@ -109,7 +109,7 @@ pub fn form_written(
             names,
             classes,
             *packed,
-            fields_of(names, tree.types(), of),
+            fields_of(tree, of),
             fields.as_slice(),
         ),
         Some(ConstantNode::Name(_)) => is_pointer(names, of),

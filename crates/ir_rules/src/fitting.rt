@@ -142,12 +142,12 @@ fn callee_fits(
     }
 }
 
-fn operand_index(names: &Names, operand: Operand) -> Option<u64>
-    ensures { result ≡ operand_index (shown_operand names.now operand) }
+fn operand_index(names: &Names, argument: Argument) -> Option<u64>
+    ensures { result ≡ operand_index (type_at names.now argument.of) (shown_operand names.now argument.value) }
 {
-    match operand {
+    match argument.value {
         Operand::Register(_) => None,
-        Operand::Constant(number) => constant_index(constant(names, number)),
+        Operand::Constant(number) => { constant_index(names, argument.of, constant(names, number)) }
     }
 }
 
@@ -157,11 +157,11 @@ fn indices(
     names: &Names,
     arguments: &[Argument],
 ) -> Result<List<Option<u64>>, Memory>
-    ensures { IfOk result (λ l. l ≡ map (λ a. operand_index (shown_operand names.now a.value)) arguments.now) }
+    ensures { IfOk result (λ l. l ≡ map (λ a. operand_index (type_at names.now a.of) (shown_operand names.now a.value)) arguments.now) }
 {
     let mut numbers = List::new(alloc);
     for argument in arguments {
-        numbers.push(operand_index(names, argument.value))?;
+        numbers.push(operand_index(names, *argument))?;
     }
     Ok(numbers)
 }
@@ -174,10 +174,10 @@ pub fn address_fits(
     of: TypeId,
     arguments: &[Argument],
 ) -> Result<bool, Memory>
-    ensures { IfOk result (λ b. b ≡ agrees (path (seen tree.now).types (type_at tree.now.names of) (map (λ a. operand_index a.value) (map (shown_argument tree.now.names) arguments.now)))) }
+    ensures { IfOk result (λ b. b ≡ agrees (path (seen tree.now).types (type_at tree.now.names of) (map (λ a. operand_index a.of a.value) (map (shown_argument tree.now.names) arguments.now)))) }
 {
     let numbers = indices(alloc, tree.names(), arguments)?;
-    Ok(agrees(path(tree.names(), tree.types(), of, numbers.as_slice())))
+    Ok(agrees(path(tree, of, numbers.as_slice())))
 }
 
 /// Whether an instruction has what its form asks beyond its operands.

@@ -4,7 +4,7 @@ ghost use Rattle.std.specs.List.{list_all};
 ghost use Rattle.ir_tree.specs.Trees.{PtrV, AddressC};
 ghost use Rattle.ir_tree.specs.Naming.{type_at, types_at, constant_at, elements_by};
 ghost use Rattle.ir_rules.specs.Seen.{seen};
-ghost use Rattle.ir_rules.specs.Constants.{is_integer, written_types, all_integers, has_form, constant_index, indices_of, holds_together, all_together};
+ghost use Rattle.ir_rules.specs.Constants.{is_integer, written_types, all_integers, has_form, constant_bits, constant_index, indices_of, holds_together, all_together};
 ghost use Rattle.ir_rules.specs.Indexing.{path, agrees};
 ghost use Rattle.ir_rules.specs.Heads.{constant_below, node_constant, element_types, shown_walk, FlagsBelow, AreFlags};
 ghost use Rattle.ir_rules.specs.Classes.{AreClasses};
@@ -13,7 +13,7 @@ use crate::constants::constant;
 use crate::flags::{constant_before, flag_at, has_form, number_of};
 use crate::given::{Given, Walk};
 use crate::paths::path;
-use crate::types::is_integer;
+use crate::types::{has_width, is_integer};
 use ir_tree::nodes::{ConstantId, ConstantNode, Element, TypeId};
 use ir_tree::table::Names;
 use ir_tree::whole::Module;
@@ -21,9 +21,9 @@ use pv_base::list::List;
 use pv_base::want::Memory;
 use std::alloc::Global;
 
-/// The number of an index that is a constant integer.
-pub fn constant_index(value: Option<&ConstantNode>) -> Option<u64>
-    ensures { (t : _) (k : ℕ) → result ≡ constant_index (node_constant t k (option_copied value.entry)) }
+/// The number that a constant integer is.
+fn constant_bits(value: Option<&ConstantNode>) -> Option<u64>
+    ensures { (t : _) (k : ℕ) → result ≡ constant_bits (node_constant t k (option_copied value.entry)) }
 {
     match value {
         Some(ConstantNode::Integer(n)) => Some(n.bits()),
@@ -32,10 +32,25 @@ pub fn constant_index(value: Option<&ConstantNode>) -> Option<u64>
     }
 }
 
-fn index_below(names: &Names, before: usize, number: ConstantId) -> Option<u64>
-    ensures { result ≡ constant_index (constant_below names.now before number) }
+/// The number of an index that is a constant `i32`.
+pub fn constant_index(names: &Names, of: TypeId, value: Option<&ConstantNode>) -> Option<u64>
+    ensures { (t : _) (k : ℕ) → result ≡ constant_index (type_at names.now of) (node_constant t k (option_copied value.entry)) }
 {
-    constant_index(constant_before(names, before, number))
+    if has_width(names, 32, of) {
+        constant_bits(value)
+    } else {
+        None
+    }
+}
+
+fn index_below(names: &Names, before: usize, element: Element) -> Option<u64>
+    ensures { result ≡ constant_index (type_at names.now element.of) (constant_below names.now before element.value) }
+{
+    constant_index(
+        names,
+        element.of,
+        constant_before(names, before, element.value),
+    )
 }
 
 fn indices_below(
@@ -44,11 +59,11 @@ fn indices_below(
     before: usize,
     elements: &[Element],
 ) -> Result<List<Option<u64>>, Memory>
-    ensures { IfOk result (λ l. l ≡ map (λ e. constant_index (constant_below names.now before e.value)) elements.now) }
+    ensures { IfOk result (λ l. l ≡ map (λ e. constant_index (type_at names.now e.of) (constant_below names.now before e.value)) elements.now) }
 {
     let mut indices = List::new(alloc);
     for element in elements {
-        indices.push(index_below(names, before, element.value))?;
+        indices.push(index_below(names, before, *element))?;
     }
     Ok(indices)
 }
@@ -117,7 +132,7 @@ fn indices_agree(
 {
     let names = tree.names();
     let indices = indices_below(alloc, names, before, elements)?;
-    Ok(agrees(path(names, tree.types(), of, indices.as_slice())))
+    Ok(agrees(path(tree, of, indices.as_slice())))
 }
 
 /// Whether a constant address holds together.
