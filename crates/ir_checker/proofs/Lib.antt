@@ -1,4 +1,6 @@
+pub mod ConstantKeyLemmas
 pub mod ConstantSame
+pub mod EnterLemmas
 pub mod FindingLemmas
 pub mod FirstLemmas
 pub mod IndexLemmas

@@ -1,5 +1,7 @@
 pub mod ConstantClasses
+pub mod ConstantKeys
 pub mod Ending
+pub mod Entering
 pub mod Facts
 pub mod Finding
 pub mod Firsts

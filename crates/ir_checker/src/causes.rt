@@ -4,11 +4,13 @@ ghost use Rattle.ir_tree.specs.Naming.{name_at};
 ghost use Rattle.ir_tree.specs.Shown.{shown, shown_function, shown_global};
 ghost use Rattle.ir_rules.specs.Seen.{seen};
 ghost use Rattle.ir_rules.specs.Heads.{AreTables};
+ghost use Rattle.ir_checker.specs.Entering.{AreEdges};
 ghost use Rattle.ir_checker.specs.Facts.{AreFacts};
 ghost use Rattle.ir_checker.specs.Scopes.{IsScope};
 ghost use Rattle.ir_checker.specs.Finding.{spot_cause, global_cause, whole_cause};
 
 use crate::calls::call_allowed;
+use crate::edges::Edges;
 use crate::facts::Facts;
 use crate::meeting::{names_known, types_fit};
 use crate::phis::phi_fits;
@@ -43,11 +45,13 @@ pub fn spot_cause(
     facts: &Facts,
     function: &Function,
     scope: &Scope,
+    edges: &Edges,
     standing: Standing,
     instruction: &Instruction,
 ) -> Result<Option<CheckCause>, Memory>
     requires facts { AreFacts tree.now facts.now }
     requires scope { IsScope tree.now.names facts.now.index.zero function.now scope.now }
+    requires edges { AreEdges tree.now.names function.now edges.now }
     ensures { IfOk result (λ c. c ≡ spot_cause (seen tree.now) (shown_function tree.now.names function.now) standing.lack (record { instruction = shown tree.now.names instruction.now; label = name_at tree.now.names standing.label; entry = standing.entry; behind_phis = standing.behind; last = standing.last })) }
 {
     if !names_known(alloc, tree, facts, function, scope, instruction)? {
@@ -67,6 +71,7 @@ pub fn spot_cause(
         tree.names(),
         facts.kinds.as_slice(),
         function,
+        edges,
         standing.label,
         standing.behind,
         instruction,

@@ -1,16 +1,18 @@
 //! The first fault of a module, in text order.
-ghost use Rattle.std.specs.Prelude.{◌≡◌, ◌+◌, ◌&&◌, not, true, map, length, IfOk};
+ghost use Rattle.std.specs.Prelude.{◌≡◌, ◌+◌, ◌&&◌, not, nat_eq, true, map, length, IfOk};
 ghost use Rattle.ir_tree.specs.Naming.{name_at};
 ghost use Rattle.ir_tree.specs.Shown.{shown, shown_block, shown_function, shown_global};
 ghost use Rattle.ir_rules.specs.Seen.{seen};
 ghost use Rattle.ir_rules.specs.Forms.{is_phi};
 ghost use Rattle.ir_rules.specs.Faults.{first_fault};
 ghost use Rattle.ir_rules.specs.Heads.{AreTables};
+ghost use Rattle.ir_checker.specs.Entering.{AreEdges};
 ghost use Rattle.ir_checker.specs.Facts.{AreFacts};
 ghost use Rattle.ir_checker.specs.Scopes.{IsScope};
 ghost use Rattle.ir_checker.specs.Finding.{lack_cause, found_at, block_fault, blocks_fault, function_fault, fault_in, functions_fault, fault_of_global, globals_fault, fault_of_whole, whole_cause};
 
 use crate::causes::{Standing, global_cause, spot_cause, whole_cause};
+use crate::edges::{Edges, find_edges};
 use crate::facts::{Facts, find_facts};
 use crate::found::Found;
 use crate::scope::{Scope, find_scope};
@@ -56,11 +58,13 @@ fn block_fault(
     facts: &Facts,
     function: &Function,
     scope: &Scope,
+    edges: &Edges,
     opening: Opening,
     block: &Block,
 ) -> Result<Option<Found>, Memory>
     requires facts { AreFacts tree.now facts.now }
     requires scope { IsScope tree.now.names facts.now.index.zero function.now scope.now }
+    requires edges { AreEdges tree.now.names function.now edges.now }
     ensures { IfOk result (λ r. r ≡ block_fault (seen tree.now) (shown_function tree.now.names function.now) (name_at tree.now.names block.now.label) opening.entry true opening.lack opening.place (map (shown tree.now.names) block.now.instructions)) }
 {
     let instructions = block.instructions.as_slice();
@@ -75,7 +79,16 @@ fn block_fault(
             last: i + 1 == instructions.len(),
             lack,
         };
-        let cause = spot_cause(alloc, tree, facts, function, scope, standing, instruction)?;
+        let cause = spot_cause(
+            alloc,
+            tree,
+            facts,
+            function,
+            scope,
+            edges,
+            standing,
+            instruction,
+        )?;
         match cause {
             Some(cause) => {
                 let place = further(opening.place, i)?;
@@ -109,11 +122,13 @@ fn blocks_fault(
     facts: &Facts,
     function: &Function,
     scope: &Scope,
+    edges: &Edges,
     lack: bool,
     blocks: &[Block],
 ) -> Result<Option<Found>, Memory>
     requires facts { AreFacts tree.now facts.now }
     requires scope { IsScope tree.now.names facts.now.index.zero function.now scope.now }
+    requires edges { AreEdges tree.now.names function.now edges.now }
     ensures { IfOk result (λ r. r ≡ blocks_fault (seen tree.now) (shown_function tree.now.names function.now) true lack 0 (map (shown_block tree.now.names) blocks.now)) }
 {
     let mut opening = Opening {
@@ -122,7 +137,7 @@ fn blocks_fault(
         place: 0,
     };
     for block in blocks {
-        let found = block_fault(alloc, tree, facts, function, scope, opening, block)?;
+        let found = block_fault(alloc, tree, facts, function, scope, edges, opening, block)?;
         if found.is_some() {
             return Ok(found);
         }
@@ -133,6 +148,13 @@ fn blocks_fault(
         };
     }
     Ok(lack_at(opening.lack, opening.place))
+}
+
+/// Whether a function is defined, and has no block.
+fn lacks_block(function: &Function) -> bool
+    ensures { result ≡ (not function.now.declared && nat_eq (length function.now.blocks) 0) }
+{
+    !function.declared && function.blocks.len() == 0
 }
 
 /// The first cause in a function.
@@ -146,9 +168,11 @@ fn function_fault(
     ensures { IfOk result (λ r. r ≡ function_fault (seen tree.now) (shown_function tree.now.names function.now)) }
 {
     let scope = find_scope(alloc, tree.names(), facts.index.zero, function)?;
+    let edges = find_edges(alloc, tree.names(), facts.index.zero, function)?;
+    let lack = lacks_block(function);
     let blocks = function.blocks.as_slice();
-    let lack = !function.declared && blocks.len() == 0;
-    blocks_fault(alloc, tree, facts, function, &scope, lack, blocks)
+    let found = blocks_fault(alloc, tree, facts, function, &scope, &edges, lack, blocks)?;
+    Ok(found)
 }
 
 /// The fault of a function by its number.

@@ -1,152 +1,78 @@
-//! Which constants of a table are the same: found once, from the first constant on, and compared by number from then on.
-ghost use Rattle.std.specs.Prelude.{◌≡◌, ◌<◌, ◌≤◌, ◌+◌, ◌&&◌, length, slice_get, Some, IfOk};
-ghost use Rattle.ir_tree.specs.Naming.{name_at, type_at, constant_at, elements_by, constant_of_node};
+//! Which constants of a table are the same: found once by their keys, from the first constant on, and compared by number from then on.
+ghost use Rattle.std.specs.Prelude.{◌≡◌, ◌<◌, ◌≤◌, ◌+◌, ◌++◌, ◌∷◌, [], length, slice_get, Some, IfOk};
+ghost use Rattle.ir_tree.specs.Naming.{constant_at};
 ghost use Rattle.ir_tree.specs.Shown.{shown_operand};
-ghost use Rattle.ir_rules.specs.Same.{same_type, same_constant, same_elements, same_operand};
+ghost use Rattle.ir_rules.specs.Same.{same_operand};
 ghost use Rattle.ir_rules.specs.Classes.{AreClasses};
 ghost use Rattle.ir_checker.specs.ConstantClasses.{KindsBelow, AreKinds, IsNextKind};
-ghost use Rattle.ir_rules.specs.Heads.{constant_below};
+ghost use Rattle.ir_checker.specs.ConstantKeys.{Keyed};
 
-use ir_rules::classes::{class_at, same_type};
+use crate::constant_keys::{ConstantKey, ConstantKeys, constant_key};
+use ir_rules::classes::class_at;
 use ir_rules::types::same_name;
 use ir_tree::instruction::Operand;
-use ir_tree::nodes::{ConstantId, ConstantNode, Element};
+use ir_tree::nodes::ConstantNode;
 use ir_tree::table::Names;
 use pv_base::list::List;
 use pv_base::want::Memory;
 use std::alloc::Global;
 
-fn same_below(names: &Names, kinds: &[usize], a: ConstantId, b: ConstantId) -> bool
-    requires { KindsBelow names.now kinds.now }
-    ensures { result ≡ same_constant (constant_below names.now (length kinds.now) a) (constant_below names.now (length kinds.now) b) }
+/// The keys before the first constant: the one of `null`, which has the class 0.
+fn first_keys(alloc: Global, names: &Names, classes: &[usize]) -> Result<ConstantKeys, Memory>
+    ensures { IfOk result (Keyed names.now classes.now []) }
 {
-    class_at(kinds, a) == class_at(kinds, b)
+    let mut keys = ConstantKeys::new(alloc);
+    keys.number(ConstantKey::Null)?;
+    Ok(keys)
 }
 
-fn same_element(names: &Names, classes: &[usize], kinds: &[usize], a: Element, b: Element) -> bool
-    requires classes { AreClasses names.now classes.now }
-    requires kinds { KindsBelow names.now kinds.now }
-    ensures { result ≡ (same_type (type_at names.now a.of) (type_at names.now b.of) && same_constant (constant_below names.now (length kinds.now) a.value) (constant_below names.now (length kinds.now) b.value)) }
-{
-    same_type(names, classes, a.of, b.of) && same_below(names, kinds, a.value, b.value)
-}
-
-fn same_elements(
+/// A class for the constant behind those that have one: the number of its key.
+fn kind_of(
+    alloc: Global,
     names: &Names,
     classes: &[usize],
     kinds: &[usize],
-    a: &[Element],
-    b: &[Element],
-) -> bool
-    requires classes { AreClasses names.now classes.now }
-    requires kinds { KindsBelow names.now kinds.now }
-    ensures { result ≡ same_elements (elements_by (type_at names.now) (constant_below names.now (length kinds.now)) a.now) (elements_by (type_at names.now) (constant_below names.now (length kinds.now)) b.now) }
-{
-    if a.len() != b.len() {
-        return false;
-    }
-    for i in 0..a.len() {
-        if !same_element(names, classes, kinds, a[i], b[i]) {
-            return false;
-        }
-    }
-    true
-}
-
-/// Whether two nodes are of one constant, where what stands in them has a class.
-#[tactic(auto, unfolding(ir_rules::specs::Same::same_constant))]
-fn same_node(
-    names: &Names,
-    classes: &[usize],
-    kinds: &[usize],
-    a: &ConstantNode,
-    b: &ConstantNode,
-) -> bool
-    requires classes { AreClasses names.now classes.now }
-    requires kinds { KindsBelow names.now kinds.now }
-    ensures { result ≡ same_constant (constant_of_node (name_at names.now) (type_at names.now) (constant_below names.now (length kinds.now)) a.now) (constant_of_node (name_at names.now) (type_at names.now) (constant_below names.now (length kinds.now)) b.now) }
-{
-    match (a, b) {
-        (ConstantNode::Integer(a), ConstantNode::Integer(b)) => {
-            a.width() == b.width() && a.bits() == b.bits()
-        }
-        (ConstantNode::Null, ConstantNode::Null) => true,
-        (ConstantNode::Zero, ConstantNode::Zero) => true,
-        (ConstantNode::Text(a), ConstantNode::Text(b)) => a.as_slice() == b.as_slice(),
-        (ConstantNode::Array(a), ConstantNode::Array(b)) => {
-            same_elements(names, classes, kinds, a.as_slice(), b.as_slice())
-        }
-        (
-            ConstantNode::Struct {
-                packed: p,
-                fields: a,
-            },
-            ConstantNode::Struct {
-                packed: q,
-                fields: b,
-            },
-        ) => *p == *q && same_elements(names, classes, kinds, a.as_slice(), b.as_slice()),
-        (ConstantNode::Name(a), ConstantNode::Name(b)) => same_name(names, *a, *b),
-        (
-            ConstantNode::Address {
-                of: s,
-                base: a,
-                indices: i,
-            },
-            ConstantNode::Address {
-                of: t,
-                base: b,
-                indices: j,
-            },
-        ) => {
-            same_type(names, classes, *s, *t)
-                && same_below(names, kinds, *a, *b)
-                && same_elements(names, classes, kinds, i.as_slice(), j.as_slice())
-        }
-        _ => false,
-    }
-}
-
-/// A class for the constant behind those that have one.
-fn kind_of(names: &Names, classes: &[usize], kinds: &[usize], node: &ConstantNode) -> usize
+    keys: &mut ConstantKeys,
+    node: &ConstantNode,
+) -> Result<usize, Memory>
     requires classes { AreClasses names.now classes.now }
     requires below { KindsBelow names.now kinds.now }
+    requires keyed { Keyed names.now classes.now kinds.now keys.old }
     requires node { slice_get names.now.constants (length kinds.now) ≡ Some node.now }
-    ensures class { IsNextKind names.now kinds.now (constant_at names.now (length kinds.now)) result }
-    ensures most { result ≤ length kinds.now + 1 }
+    ensures class { IfOk result (IsNextKind names.now kinds.now (constant_at names.now (length kinds.now))) }
+    ensures most { IfOk result (λ k. k ≤ length kinds.now + 1) }
+    ensures keyed { IfOk result (λ k. Keyed names.now classes.now (kinds.now ++ k ∷ []) keys.new) }
 {
     names.is_table();
-    if let ConstantNode::Null = node {
-        return 0;
-    }
-    for j in 0..kinds.len() {
-        if let Some(other) = names.constant_node(j as u32) {
-            if same_node(names, classes, kinds, other, node) {
-                return kinds[j];
-            }
-        }
-    }
-    kinds.len() + 1
+    let key = constant_key(alloc, classes, kinds, node)?;
+    let kind = keys.number(key)?;
+    Ok(kind)
 }
 
 /// The same, where the constant is found by its number.
-fn next_kind(names: &Names, classes: &[usize], kinds: &[usize]) -> usize
+fn next_kind(
+    alloc: Global,
+    names: &Names,
+    classes: &[usize],
+    kinds: &[usize],
+    keys: &mut ConstantKeys,
+) -> Result<usize, Memory>
     requires classes { AreClasses names.now classes.now }
     requires below { KindsBelow names.now kinds.now }
-    ensures class { IsNextKind names.now kinds.now (constant_at names.now (length kinds.now)) result }
-    ensures most { result ≤ length kinds.now + 1 }
+    requires keyed { Keyed names.now classes.now kinds.now keys.old }
+    requires more { length kinds.now < length names.now.constants }
+    ensures class { IfOk result (IsNextKind names.now kinds.now (constant_at names.now (length kinds.now))) }
+    ensures most { IfOk result (λ k. k ≤ length kinds.now + 1) }
+    ensures keyed { IfOk result (λ k. Keyed names.now classes.now (kinds.now ++ k ∷ []) keys.new) }
 {
-    if kinds.len() >= names.constant_count() {
-        return 0;
-    }
     names.is_table();
     match names.constant_node(kinds.len() as u32) {
-        Some(node) => kind_of(names, classes, kinds, node),
-        None => 0,
+        Some(node) => kind_of(alloc, names, classes, kinds, keys, node),
+        None => Err(Memory),
     }
 }
 
-/// The classes of all constants. Constants are compared in pairs.
+/// The classes of all constants.
 pub fn constant_kinds(
     alloc: Global,
     names: &Names,
@@ -155,9 +81,10 @@ pub fn constant_kinds(
     requires { AreClasses names.now classes.now }
     ensures { IfOk result (AreKinds names.now) }
 {
+    let mut keys = first_keys(alloc, names, classes)?;
     let mut kinds = List::new(alloc);
     for _number in 0..names.constant_count() {
-        let kind = next_kind(names, classes, kinds.as_slice());
+        let kind = next_kind(alloc, names, classes, kinds.as_slice(), &mut keys)?;
         kinds.push(kind)?;
     }
     Ok(kinds)

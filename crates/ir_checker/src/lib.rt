@@ -4,6 +4,8 @@
 pub mod calls;
 pub mod causes;
 pub mod check;
+pub mod constant_keys;
+pub mod edges;
 pub mod facts;
 pub mod faults;
 pub mod firsts;

@@ -4,16 +4,21 @@ use Rattle.ir_checker.proofs.KindLemmas.{no_classes, classes_more, classes_whole
 use Rattle.ir_checker.proofs.kinds.constant_kinds.Goals as goal
 
 pub loop-number-init : goal.loop-number-init
-loop-number-init c = record { len = ap length c.new-kinds.ensures; below = rw c.new-kinds.ensures (no_classes c.args.names.now) }
+loop-number-init c = record {
+  len = ap length c.new-kinds.ensures;
+  below = rw c.new-kinds.ensures (no_classes c.args.names.now);
+  keyed = rw c.new-kinds.ensures c.in_ok-keys.ensures;
+}
 
 pub loop-number-preserved : goal.loop-number-preserved
 loop-number-preserved c =
     let e = c.in_ok-push.ensures.ok in
     let at = c.as_slice.ensures in
-    let next = c.next_kind-kind.ensures in
+    let next = c.in_ok-kind.ensures in
     record {
       len = rw (e, length_push) (omega (arith, c.loop-number.invariant.len));
-      below = rw e (classes_more c.args.names.now c.loop-number.kinds c.next_kind-kind.result c.loop-number.invariant.below (rw at at next.class) (rw at at next.most));
+      below = rw e (classes_more c.args.names.now c.loop-number.kinds c.in_ok-kind.kind c.loop-number.invariant.below (rw at at next.class) (rw at at next.most));
+      keyed = rw e (rw at at next.keyed);
     }
 
 pub returns : goal.returns
