@@ -1,5 +1,6 @@
 -- What a function keeps that is read from text, by numbers and written out.
 use Rattle.std.proofs.Common.{◌≡◌, ℕ, Bool, true, false, List, [], ◌∷◌, map, length, Option, Some, None, refl, sym, ap, ◌∙◌, arith}
+use Rattle.std.proofs.Math.Dec.{eqb-suc-zero}
 use Rattle.std.proofs.lemmas.Bool.Decides.{nat_tests}
 use Rattle.std.specs.Prelude.{not, ◌&&◌, nat_eq, nat_lt, nat_le, is_some, option_map}
 use Rattle.std.specs.List.{list_all}
@@ -18,10 +19,9 @@ use Rattle.ir_tree.specs.Shown.{shown, shown_param, shown_block, shown_function}
 use Rattle.ir_rules.specs.declared.given.Defined.{Defined}
 use Rattle.ir_rules.specs.Heads.{shown_defined}
 use Rattle.ir_rules.specs.Defining.{defined}
-use Rattle.ir_rules.specs.Spots.{instruction_count}
+use Rattle.ir_rules.specs.Spots.{is_empty, instruction_count}
 use Rattle.ir_rules.specs.Reading.{is_answer, is_register, names_differ, form_stands, counts_stand, instruction_stands, function_stands}
 use Rattle.ir_rules.proofs.ShownLemmas.{defined_shown}
-use Rattle.ir_checker.proofs.ScanLemmas.{empty_shown}
 
 some_name : (t : Table) (o : Option ℕ) → is_some (option_map (name_at t) o) ≡ is_some o
 some_name t None = refl
@@ -30,6 +30,10 @@ some_name t (Some x) = refl
 named_shown : (t : Table) (ps : List (Param ℕ ℕ)) → list_all (λ p. is_some p.name) (map (shown_param t) ps) ≡ list_all (λ p. is_some p.name) ps
 named_shown t [] = refl
 named_shown t (p ∷ ps) = rw (some_name t p.name, named_shown t ps) refl
+
+empty_shown : {X Y : Type 0} (h : X → Y) (xs : List X) → is_empty (map h xs) ≡ nat_eq (length xs) 0
+empty_shown h [] = refl
+empty_shown h (x ∷ xs) = sym (eqb-suc-zero (length xs))
 
 form_by : (t : Table) (f : Function ℕ ℕ ℕ) (b : Bool) → f.declared ≡ b → form_stands (shown_function t f) ≡ form_stands (record (shown_function t f) { declared = b })
 form_by t f b e = rw e refl

@@ -1,4 +1,6 @@
 pub mod FunctionLemmas
+pub mod NameKeyLemmas
+pub mod NumberLemmas
 pub mod ReadingLemmas
 pub mod SumLemmas
 pub mod TestedLemmas

@@ -1,6 +1,6 @@
 -- What a module keeps that is read from text, by numbers and written out.
 use Rattle.std.proofs.Common.{◌≡◌, ℕ, zero, suc, ◌<◌, ◌≤◌, ◌+◌, Bool, true, false, List, [], ◌∷◌, ◌++◌, map, length, drop, get_or, Option, Some, None, refl, sym, ap, ◌∙◌, arith}
-use Rattle.std.specs.Prelude.{not, ◌&&◌, ◌||◌, option_map, nat_eq}
+use Rattle.std.specs.Prelude.{not, ◌&&◌, ◌||◌, option_map, nat_eq, is_some, if◌then◌else◌}
 use Rattle.std.specs.List.{list_any, list_all, range_with_len}
 use Rattle.std.proofs.Math.Seq.{drop-cons}
 use Rattle.std.proofs.lemmas.List.{drop_all}
@@ -11,12 +11,13 @@ use Rattle.ir_tree.specs.declared.instruction.Instruction.{Instruction}
 use Rattle.ir_tree.specs.declared.instruction.Instruction.TheVariants as instruction
 use Rattle.ir_tree.specs.declared.items.NamedType.{NamedType}
 use Rattle.pv_base.specs.declared.name.Name.{Name}
-use Rattle.ir_tree.specs.Table.{Table}
-use Rattle.ir_tree.specs.Trees.{TypeV}
+use Rattle.ir_tree.specs.Table.{Table, same_name}
+use Rattle.ir_tree.specs.Trees.{TypeV, NamedV}
+use Rattle.ir_tree.specs.Layouts.{type_named, opened}
 use Rattle.ir_tree.specs.Naming.{name_at, type_at, constant_at, types_at}
 use Rattle.ir_tree.specs.Shown.{shown, shown_argument, shown_case}
 use Rattle.ir_rules.specs.Forms.{memory_types, argument_types, answer_types, register_types, called_types, case_values}
-use Rattle.ir_rules.specs.Reading.{all_differ, is_register, is_answer, has_layout, case_bits, indices_stand, instruction_stands, none_void, is_void}
+use Rattle.ir_rules.specs.Reading.{all_differ, is_register, is_answer, has_layout, case_bits, indices_stand, instruction_stands, none_void, is_void, is_known_type}
 
 map_map : {X Y Z V : Type 0} (f : Y → Z) (g : X → Y) (h : V → Z) (k : X → V) → ((x : X) → f (g x) ≡ h (k x)) → (xs : List X) → map f (map g xs) ≡ map h (map k xs)
 map_map f g h k e [] = refl
@@ -140,27 +141,6 @@ pub none_void_is : (t : Table) (fields : List ℕ) → none_void (types_at t fie
 none_void_is t [] = refl
 none_void_is t (k ∷ fields) = ap (λ b. not (is_void (type_at t k)) && b) (none_void_is t fields)
 
--- ---- items that differ, item by item
-
-any_through : {X Y : Type 0} (p : Y → Bool) (h : X → Y) (xs : List X) → list_any p (map h xs) ≡ list_any (λ x. p (h x)) xs
-any_through p h [] = refl
-any_through p h (x ∷ xs) = ap (λ b. p (h x) || b) (any_through p h xs)
-
-module _ {X Y : Type 0} (same : Y → Y → Bool) (h : X → Y) (xs : List X) (i : ℕ) (d : X) (lt : i < length xs) where
-  differ_step : all_differ same (map h (drop i xs)) ≡ (not (list_any (λ x. same (h (get_or xs i d)) (h x)) (drop (suc i) xs)) && all_differ same (map h (drop (suc i) xs)))
-  unfolding all_differ
-  differ_step = rw (drop-cons xs i d lt, any_through (same (h (get_or xs i d))) h (drop (suc i) xs)) refl
-
-  pub differ_stop : (r : Bool) → r ≡ list_any (λ x. same (h (get_or xs i d)) (h x)) (drop (i + 1) xs) → r ≡ true → false ≡ all_differ same (map h (drop i xs))
-  differ_stop r e t = let s : i + 1 ≡ suc i = omega arith in let h : list_any (λ x. same (h (get_or xs i d)) (h x)) (drop (suc i) xs) ≡ true = rw s at (sym e ∙ t) in sym (differ_step ∙ rw h refl)
-
-  pub differ_go : (r : Bool) → r ≡ list_any (λ x. same (h (get_or xs i d)) (h x)) (drop (i + 1) xs) → r ≡ false → all_differ same (map h (drop i xs)) ≡ all_differ same (map h (drop (i + 1) xs))
-  differ_go r e t = let s : i + 1 ≡ suc i = omega arith in let h : list_any (λ x. same (h (get_or xs i d)) (h x)) (drop (suc i) xs) ≡ false = rw s at (sym e ∙ t) in rw s (differ_step ∙ rw h refl)
-
-pub differ_end : {X Y : Type 0} (same : Y → Y → Bool) (h : X → Y) (xs : List X) (i : ℕ) → length xs ≤ i → true ≡ all_differ same (map h (drop i xs))
-unfolding all_differ
-differ_end same h xs i le = rw (drop_all i xs le) refl
-
 -- ---- tests of each number below one
 
 below_from : (p : ℕ → Bool) (a n : ℕ) → ((j : ℕ) → j < n → p (a + j) ≡ true) → list_all p (range_with_len a n) ≡ true
@@ -201,6 +181,16 @@ not_items p d [] j lt e = absurd (omega arith)
 not_items p d (x ∷ xs) zero lt e = rw e refl
 not_items p d (x ∷ xs) (suc j) lt e = rw (sym (not_items p d xs j (omega arith) e)) (sym (and_no (p x)))
 
-pub map_same : {X : Type 0} (xs : List X) → map (λ x. x) xs ≡ xs
-map_same [] = refl
-map_same (x ∷ xs) = ap (λ l. x ∷ l) (map_same xs)
+-- ---- named types
+
+known_named : (types : List (NamedType Name TypeV)) (name : Name) → is_some (type_named types name) ≡ list_any (λ t. same_name name t.name) types
+known_named [] name = refl
+known_named (t ∷ types) name = step (same_name name t.name) (known_named types name)
+  where
+    step : (b : Bool) → is_some (type_named types name) ≡ list_any (λ t. same_name name t.name) types → is_some (if b then Some t.of else type_named types name) ≡ (b || list_any (λ t. same_name name t.name) types)
+    step true rest = refl
+    step false rest = rest
+
+-- a name is that of a type where it can be opened
+pub known_is : (types : List (NamedType Name TypeV)) (type : TypeV) (name : Name) → type ≡ NamedV name → is_some (opened types type) ≡ is_known_type types name
+known_is types type name e = rw e (known_named types name)

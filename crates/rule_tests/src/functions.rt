@@ -60,7 +60,8 @@ fn names_stand(alloc: Global, names: &Names, function: &Function) -> Result<bool
 {
     let all = defined(alloc, function)?;
     let numbers = names_of(alloc, all.as_slice())?;
-    Ok(names_differ(names, numbers.as_slice()))
+    let differ = names_differ(alloc, names, numbers.as_slice())?;
+    Ok(differ)
 }
 
 /// Whether blocks have fewer than 2^32 instructions together.

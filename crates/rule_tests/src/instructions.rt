@@ -142,26 +142,31 @@ fn all_case_bits(alloc: Global, names: &Names, cases: &[Case]) -> Result<List<u6
     Ok(all)
 }
 
+fn values_differ(alloc: Global, names: &Names, cases: &[Case]) -> Result<bool, Memory>
+    ensures { IfOk result (λ b. b ≡ all_differ nat_eq (map (λ k. case_bits (constant_at names.now k)) (map (λ c. c.value) cases.now))) }
+{
+    let all = all_case_bits(alloc, names, cases)?;
+    let differ = numbers_differ(alloc, all.as_slice())?;
+    Ok(differ)
+}
+
 /// Whether the cases of a switch differ.
 #[tactic(auto, unfolding(ir_rules::specs::Forms::case_values, ir_rules::specs::Reading::all_differ))]
 fn cases_differ(alloc: Global, names: &Names, instruction: &Instruction) -> Result<bool, Memory>
     ensures { IfOk result (λ b. b ≡ all_differ nat_eq (map (λ k. case_bits (constant_at names.now k)) (case_values instruction.now))) }
 {
     match instruction {
-        Instruction::Switch { cases, .. } => {
-            let all = all_case_bits(alloc, names, cases.as_slice())?;
-            Ok(numbers_differ(all.as_slice()))
-        }
+        Instruction::Switch { cases, .. } => values_differ(alloc, names, cases.as_slice()),
         _ => Ok(true),
     }
 }
 
-fn operand_index(names: &Names, operand: Operand) -> Option<u64>
-    ensures { result ≡ operand_index (shown_operand names.now operand) }
+fn operand_index(names: &Names, argument: Argument) -> Option<u64>
+    ensures { result ≡ operand_index (type_at names.now argument.of) (shown_operand names.now argument.value) }
 {
-    match operand {
+    match argument.value {
         Operand::Register(_) => None,
-        Operand::Constant(number) => constant_index(constant(names, number)),
+        Operand::Constant(number) => { constant_index(names, argument.of, constant(names, number)) }
     }
 }
 
@@ -170,11 +175,11 @@ fn indices(
     names: &Names,
     arguments: &[Argument],
 ) -> Result<List<Option<u64>>, Memory>
-    ensures { IfOk result (λ l. l ≡ map (λ a. operand_index (shown_operand names.now a.value)) arguments.now) }
+    ensures { IfOk result (λ l. l ≡ map (λ a. operand_index (type_at names.now a.of) (shown_operand names.now a.value)) arguments.now) }
 {
     let mut numbers = List::new(alloc);
     for argument in arguments {
-        numbers.push(operand_index(names, argument.value))?;
+        numbers.push(operand_index(names, *argument))?;
     }
     Ok(numbers)
 }
@@ -186,10 +191,10 @@ fn indices_inside(
     of: TypeId,
     arguments: &[Argument],
 ) -> Result<bool, Memory>
-    ensures { IfOk result (λ b. b ≡ is_inside (path (types_of tree.now) (type_at tree.now.names of) (map (λ a. operand_index a.value) (map (shown_argument tree.now.names) arguments.now)))) }
+    ensures { IfOk result (λ b. b ≡ is_inside (path (types_of tree.now) (type_at tree.now.names of) (map (λ a. operand_index a.of a.value) (map (shown_argument tree.now.names) arguments.now)))) }
 {
     let numbers = indices(alloc, tree.names(), arguments)?;
-    Ok(is_inside(path(tree.names(), tree.types(), of, numbers.as_slice())))
+    Ok(is_inside(path(tree, of, numbers.as_slice())))
 }
 
 /// Whether indices stay inside of structs.

@@ -1,25 +1,24 @@
 //! Whether the types, the constants and the names of a table are those of a module that is read from text.
-ghost use Rattle.std.specs.Prelude.{◌≡◌, ◌&&◌, not, map, IfOk};
-ghost use Rattle.std.specs.List.{list_all, list_any};
-ghost use Rattle.ir_tree.specs.Table.{same_name};
+ghost use Rattle.std.specs.Prelude.{◌≡◌, ◌&&◌, not, is_some, map, IfOk};
+ghost use Rattle.std.specs.List.{list_all};
 ghost use Rattle.ir_tree.specs.Naming.{name_at, type_at, constant_at, elements_by};
+ghost use Rattle.ir_tree.specs.Layouts.{opened};
 ghost use Rattle.ir_tree.specs.Modules.{types_of};
 ghost use Rattle.ir_rules.specs.Constants.{constant_index, indices_of};
 ghost use Rattle.ir_rules.specs.Indexing.{path, is_inside};
 ghost use Rattle.ir_rules.specs.Heads.{name_or, constant_below, node_constant, shown_walk};
-ghost use Rattle.ir_rules.specs.Reading.{is_void, none_void, is_known_type, level_stands, has_layout, address_stands, name_stands};
+ghost use Rattle.ir_rules.specs.Reading.{is_void, none_void, level_stands, has_layout, address_stands, name_stands};
 
 use ir_rules::constants::constant;
 use ir_rules::flags::constant_before;
 use ir_rules::given::Walk;
 use ir_rules::paths::path;
 use ir_rules::together::constant_index;
-use ir_rules::types::{Head, head_of, is_void, same_name};
+use ir_rules::types::{Head, head_of, is_void};
 use ir_rules::whole::name;
-use ir_tree::items::NamedType;
 use ir_tree::nodes::{ConstantId, ConstantNode, Element, NameId, TypeId};
 use ir_tree::table::Names;
-use ir_tree::whole::{Module, layout_at};
+use ir_tree::whole::{Module, layout_at, opened};
 use pv_base::list::List;
 use pv_base::name::Name;
 use pv_base::want::Memory;
@@ -32,10 +31,11 @@ pub fn has_layout(tree: &Module, of: TypeId) -> bool
     layout_at(tree, of).is_some()
 }
 
-fn is_known_type(names: &Names, types: &[NamedType], name: NameId) -> bool
-    ensures { result ≡ list_any (λ t. same_name (name_at names.now name) (name_at names.now t.name)) types.now }
+/// Whether a type that is a name is the name of a type.
+fn is_known_type(tree: &Module, of: TypeId) -> bool
+    ensures { result ≡ is_some (opened (types_of tree.now) (type_at tree.now.names of)) }
 {
-    types.iter().any(|t| same_name(names, name, t.name))
+    opened(tree, of).is_some()
 }
 
 fn none_void(names: &Names, fields: &[TypeId]) -> bool
@@ -45,7 +45,7 @@ fn none_void(names: &Names, fields: &[TypeId]) -> bool
 }
 
 /// Whether a type stands so in a module, at its outermost level.
-#[tactic(auto, using(crate::proofs::ReadingLemmas::none_void_is, ir_rules::proofs::FlagLemmas::any_of))]
+#[tactic(auto, using(crate::proofs::ReadingLemmas::none_void_is, crate::proofs::ReadingLemmas::known_is))]
 pub fn level_stands(tree: &Module, of: TypeId) -> bool
     ensures { result ≡ level_stands (types_of tree.now) (type_at tree.now.names of) }
 {
@@ -54,7 +54,7 @@ pub fn level_stands(tree: &Module, of: TypeId) -> bool
         Head::Int(width) => 0 < width && width <= 64,
         Head::Array { count: _, of } => !is_void(names, of),
         Head::Struct { packed: _, fields } => none_void(names, fields),
-        Head::Named(name) => is_known_type(names, tree.types(), name),
+        Head::Named(_) => is_known_type(tree, of),
         _ => true,
     }
 }
@@ -66,11 +66,12 @@ fn indices_before(
     before: usize,
     elements: &[Element],
 ) -> Result<List<Option<u64>>, Memory>
-    ensures { IfOk result (λ l. l ≡ map (λ e. constant_index (constant_below names.now before e.value)) elements.now) }
+    ensures { IfOk result (λ l. l ≡ map (λ e. constant_index (type_at names.now e.of) (constant_below names.now before e.value)) elements.now) }
 {
     let mut indices = List::new(alloc);
     for element in elements {
-        indices.push(constant_index(constant_before(names, before, element.value)))?;
+        let value = constant_before(names, before, element.value);
+        indices.push(constant_index(names, element.of, value))?;
     }
     Ok(indices)
 }
@@ -98,7 +99,7 @@ fn address_stands(
 {
     let names = tree.names();
     let indices = indices_before(alloc, names, before as usize, indices)?;
-    let inside = is_inside(path(names, tree.types(), of, indices.as_slice()));
+    let inside = is_inside(path(tree, of, indices.as_slice()));
     Ok(has_layout(tree, of) && inside)
 }
 

@@ -82,8 +82,8 @@ fn items_differ(alloc: Global, tree: &Module) -> Result<bool, Memory>
     let types = type_names(alloc, tree.types())?;
     let globals = global_names(alloc, tree)?;
     let structs = are_structs(names, tree.types());
-    let types = names_differ(names, types.as_slice());
-    let globals = names_differ(names, globals.as_slice());
+    let types = names_differ(alloc, names, types.as_slice())?;
+    let globals = names_differ(alloc, names, globals.as_slice())?;
     Ok(all_three(structs, types, globals))
 }
 

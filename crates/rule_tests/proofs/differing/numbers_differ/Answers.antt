@@ -1,15 +1,18 @@
-use Rattle.std.proofs.Common.{◌+◌, drop, sym, ◌∙◌, arith}
-use Rattle.std.specs.Prelude.{nat_eq}
-use Rattle.rule_tests.proofs.ReadingLemmas.{map_same, differ_stop, differ_go, differ_end}
+use Rattle.std.proofs.Common.{◌∙◌, sym, arith}
+use Rattle.rule_tests.proofs.NumberLemmas.{any_more, differ_more, differ_twice, differ_none, differ_whole, empty_set, is_old, is_new}
 use Rattle.rule_tests.proofs.differing.numbers_differ.Goals as goal
 
-pub returns-then-any_equal : goal.returns-then-any_equal
-returns-then-any_equal c = (rw (map_same (drop c.loop-i.i c.args.all.now)) at (differ_stop nat_eq (λ x. x) c.args.all.now c.loop-i.i 0 (omega arith) c.any_equal.result c.any_equal.ensures c.if-any_equal.true)) ∙ sym c.loop-i.invariant
+pub loop-i-init : goal.loop-i-init
+loop-i-init c = record { seen = λ q. empty_set q c.new-seen.result c.new-seen.ensures.empty; differ = differ_none }
+
+pub returns-then-not-branch : goal.returns-then-not-branch
+returns-then-not-branch c = differ_twice c.args.all.now c.loop-i.i 0 (omega arith) (sym (c.loop-i.invariant.seen _) ∙ is_old _ _ c.in_ok-add.ensures.new c.if-not-branch.true)
 
 pub loop-i-preserved : goal.loop-i-preserved
-loop-i-preserved c =
-    c.loop-i.invariant
-    ∙ (rw (map_same (drop c.loop-i.i c.args.all.now), map_same (drop (c.loop-i.i + 1) c.args.all.now)) at (differ_go nat_eq (λ x. x) c.args.all.now c.loop-i.i 0 (omega arith) c.any_equal.result c.any_equal.ensures c.if-any_equal.false))
+loop-i-preserved c = record {
+  seen = λ q. c.in_ok-add.ensures.more q ∙ rw (c.loop-i.invariant.seen q) (sym (any_more c.args.all.now c.loop-i.i 0 (omega arith) q));
+  differ = differ_more c.args.all.now c.loop-i.i 0 (omega arith) c.loop-i.invariant.differ (sym (c.loop-i.invariant.seen _) ∙ is_new _ _ c.in_ok-add.ensures.new c.if-not-branch.false);
+}
 
 pub returns : goal.returns
-returns c = (rw (map_same (drop c.loop-i.i c.args.all.now)) at (differ_end nat_eq (λ x. x) c.args.all.now c.loop-i.i (omega arith))) ∙ sym c.loop-i.invariant
+returns c = differ_whole c.args.all.now c.loop-i.i (omega arith) c.loop-i.invariant.differ
