@@ -1,6 +1,6 @@
 -- A step keeps what the frames own.
 use Rattle.std.proofs.Common.{◌≡◌, ◌∙◌, ℕ, zero, suc, ◌+◌, ◌-◌, ◌<◌, ◌==◌, List, [], ◌∷◌, ◌++◌, length, take, slice_get, slice_set, Option, Some, None, Result, Ok, Err, Bool, true, false, refl, sym, ap, subst, arith, append_assoc, append-nil, if◌then◌else◌}
-use Rattle.std.specs.Prelude.{IfOk, nat_lt, pos}
+use Rattle.std.specs.Prelude.{OnErr, IfErr, nat_lt, pos}
 use Rattle.std.proofs.lemmas.Option.{slice_get_within}
 use Rattle.std.proofs.lemmas.Bool.Decides.{nat_tests}
 use Rattle.pv_base.specs.declared.place.Site.{Site}
@@ -19,6 +19,8 @@ use Rattle.mem_image.specs.declared.object.Kind.TheVariants.{Stack}
 use Rattle.mem_image.specs.declared.fault.Trap.{Trap as TrapWord}
 use Rattle.mem_image.specs.declared.fault.Trap.TheVariants.{Unreachable, LiveMemory, Names}
 use Rattle.mem_image.specs.declared.fault.Fault.{Fault}
+use Rattle.mem_image.specs.declared.fault.Fault.TheVariants.{Trap, Check, Memory}
+use Rattle.pv_base.specs.Outside.{Text}
 use Rattle.mem_image.specs.Picture.{Picture, IsPicture, find, over, added, fresh, end_frame, name_limit}
 use Rattle.mem_image.specs.Calls.{Call, Reply, Make, EndFrame, Made, Done, Fits, does, made_reply}
 use Rattle.mem_image.proofs.Meanings.{calls_keep}
@@ -30,8 +32,9 @@ use Rattle.seq_machine.specs.Script.{Asks, Stops, Gives, tell, with, outcome, Te
 use Rattle.seq_machine.specs.Values.{Sets, then_, is_some_type}
 use Rattle.seq_machine.specs.Flow.{is_result, result_value, returned, may_stand, IsEntry, IsEntryOf}
 use Rattle.seq_machine.specs.Accesses.{alloca, made_own}
-use Rattle.seq_machine.specs.Acts.{Control, Acted, acted, keep, top, with_top, without_top, next, put, put_if, put_result, resumed, resumed_top, bare_top, back, taken, arrived, move_values, entered, on_top, going_on, ending, output_limit, frame_limit, result_register, op_at, exit_number}
+use Rattle.seq_machine.specs.Acts.{Control, Acted, acted, acted_of, keep, top, with_top, without_top, next, put, put_if, put_result, resumed, resumed_top, bare_top, back, taken, arrived, move_values, entered, on_top, going_on, ending, output_limit, frame_limit, result_register, op_at, exit_number}
 use Rattle.seq_machine.specs.Meaning.{Here, meaning}
+use Rattle.seq_machine.specs.Effects.{StopsAt}
 use Rattle.seq_machine.specs.Owned.{owned, IsSlot, OwnOf}
 use Rattle.seq_machine.specs.Step.{EffectFor, IsEdge}
 use Rattle.seq_machine.proofs.FrameLists.{set_same}
@@ -282,14 +285,19 @@ told : (x : Result Acted TrapWord) (a : Acted) → Tells x (Ok a) → x ≡ Ok a
 told (Ok b) a h = ap Ok (sym h)
 told (Err t) a h = elim h [ ]
 
--- the frames that the code leaves own what they may
-pub own_after : (code : Code) (g : FunctionCode) (f : Frame) (c : Control) (e : Effect) (m n : Picture) (mk : Option Integer → Acted) (r : Result (Option Integer) Fault) → IsPicture m → OwnOf c.frames m → top c.frames ≡ Some f → Leaves e f m n → Tells (acted code g f c e) (sent mk r) → IfOk r (λ x. OwnOf (mk x).control.frames n)
-own_after code g f c e m n mk (Ok x) p h t l tells = acted_own code g f c (mk x) m n p h t e l (told (acted code g f c e) (mk x) tells)
-own_after code g f c e m n mk (Err fault) p h t l tells = tt
+-- where the effect is not done, no slot was released
+leaves_stop : (e : Effect) (f : Frame) (m n : Picture) (fault : Fault) → Leaves e f m n → StopsAt e fault → Grows m n
+leaves_stop (effect.Back v) f m n (Trap t) l s = elim s [ ]
+leaves_stop (effect.Back v) f m n (Check x) l s = elim s [ ]
+leaves_stop (effect.Back v) f m n Memory l s = elim s [ ]
+leaves_stop (effect.Keep to name) f m n fault l s = l.2
+leaves_stop _ f m n fault l s = l
 
-pub picture_after : {A : Type 0} (m : Picture) (r : Result A Fault) → IsPicture m → IfOk r (λ x. IsPicture m)
-picture_after m (Ok x) p = p
-picture_after m (Err f) p = tt
+-- the frames that the code leaves own what they may
+pub own_after : (code : Code) (g : FunctionCode) (f : Frame) (c : Control) (e : Effect) (m n : Picture) (frames : List Frame) (place : ℕ) (output : Text) (r : Result (Option Integer) Fault) (P Q : Type 0) → IsPicture m → OwnOf c.frames m → top c.frames ≡ Some f → Leaves e f m n → Tells (acted code g f c e) (sent (acted_of frames place output) r)
+    → OnErr r ((frames ≡ c.frames) × P × Q) → IfErr r (StopsAt e) → OwnOf frames n
+own_after code g f c e m n frames place output (Ok x) P Q p h t l tells err stops = acted_own code g f c (acted_of frames place output x) m n p h t e l (told (acted code g f c e) (acted_of frames place output x) tells)
+own_after code g f c e m n frames place output (Err fault) P Q p h t l tells err stops = grown c.frames frames m n h (leaves_stop e f m n fault l stops) (ap owned err.0)
 
 -- what an instruction did, by its calls
 pub follows_left : {M : Type 0} (image : M → Picture) (R : M → Call → Result Reply Fault → M → Type 0) → ((m n : M) (call : Call) (answer : Result Reply Fault) → R m call answer n → Fits (does (image m) call) (image m) answer (image n)) → (h : Here) (o : Op) (e : Effect) (m n : M) → EffectFor h.code h.function o e → IsPicture (image m) → Follows image R (meaning h o) m (Ok e) n → IsPicture (image n) × Leaves e h.frame (image m) (image n)

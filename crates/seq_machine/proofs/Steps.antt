@@ -159,11 +159,3 @@ run_next code input s s' n m same e = rw (same, add-one, e, steps_from) refl
 -- an image fails no check
 pub failed_never : (code : Code) (input : Text) (s s' : State Picture) (f : CheckFault) (site : Site) → Follows (λ m. m) (λ before call answer after. ImageAnswers call answer × Fits (does before call) before answer after) (script code input (control s)) s.memory (shown s' (Ok (Failed f site))) s'.memory → ⊥
 failed_never code input s s' f site h = no_check {A = Acted} (script code input (control s)) s.memory (Err (Check f)) s'.memory h
-
--- a trap leaves what stands, and so does a check
-pub step_keeps : (code : Code) (old new : State Picture) (site : Site) (place output : Type 0) (done : Result (Option Integer) Fault) → StateOf code old → FramesOf code new.frames → IfOk done (λ _. IsPicture new.memory) → IfOk done (λ _. OwnOf new.frames new.memory) → OnErr done ((new.frames ≡ old.frames) × place × output) → IfErr done (λ f. IsStop f → new.memory ≡ old.memory)
-    → IfOk (settled site done) (λ _. StateOf code new)
-step_keeps code old new site place output (Ok n) h f p o e i = record { frames = f; memory = p; own = o }
-step_keeps code old new site place output (Err (Trap t)) h f p o e i = let m : new.memory ≡ old.memory = i tt in record { frames = f; memory = rw m h.memory; own = rw (m, e.0) h.own }
-step_keeps code old new site place output (Err (Check c)) h f p o e i = let m : new.memory ≡ old.memory = i tt in record { frames = f; memory = rw m h.memory; own = rw (m, e.0) h.own }
-step_keeps code old new site place output (Err Memory) h f p o e i = tt

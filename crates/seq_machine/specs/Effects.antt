@@ -10,11 +10,19 @@ MayStop (effect.Enter k registers) = Unit {0}
 MayStop (effect.Print text to v) = Unit {0}
 MayStop _ = ⊥
 
+-- what may want memory
+abbrev pub MayWant : Effect → Type 0
+MayWant (effect.Keep to name) = Unit {0}
+MayWant (effect.Edge e) = Unit {0}
+MayWant (effect.Enter k registers) = Unit {0}
+MayWant (effect.Print text to v) = Unit {0}
+MayWant _ = ⊥
+
 -- the fault that doing the effect may end with
 abbrev pub StopsAt : Effect → Fault → Type 0
 StopsAt e (Trap t) = MayStop e
 StopsAt e (Check f) = ⊥
-StopsAt e Memory = Unit {0}
+StopsAt e Memory = MayWant e
 
 -- it is no want of memory
 abbrev pub IsStop : Fault → Type 0

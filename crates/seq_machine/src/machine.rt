@@ -1,5 +1,5 @@
 //! One step over any memory.
-ghost use Rattle.std.specs.Prelude.{◌≡◌, ◌+◌, ◌<◌, ◌^◌, nat_lt, not, ◌||◌, length, slice_get, IfOk, IfErr, OnErr, Some, true};
+ghost use Rattle.std.specs.Prelude.{◌≡◌, ◌+◌, ◌<◌, ◌^◌, nat_lt, not, ◌||◌, length, slice_get, IfErr, OnErr, Some, true};
 ghost use Rattle.mem_image.specs.Picture.{IsPicture};
 ghost use Rattle.seq_machine.specs.Owned.{OwnOf};
 ghost use Rattle.seq_machine.specs.Script.{Follows, chain, tell, sent};
@@ -87,8 +87,8 @@ fn perform<M: Mem>(
     ensures err { OnErr result ((frames.new ≡ frames.old) × (input_place.new ≡ input_place.old) × (output.new ≡ output.old)) }
     ensures image { IfErr result (λ fault. IsStop fault → M.image memory.new ≡ M.image memory.old) }
     ensures kept { FramesOf code.now frames.new }
-    ensures picture { IfOk result (λ _. IsPicture (M.image memory.new)) }
-    ensures own { IfOk result (λ _. OwnOf frames.new (M.image memory.new)) }
+    ensures picture { IsPicture (M.image memory.new) }
+    ensures own { OwnOf frames.new (M.image memory.new) }
 {
     let frame = frames.at(frames.len() - 1);
     match execute(code, function, frame, memory, site, input, *input_place, op) {
@@ -125,8 +125,8 @@ fn advance<M: Mem>(
     ensures err { OnErr result ((frames.new ≡ frames.old) × (input_place.new ≡ input_place.old) × (output.new ≡ output.old)) }
     ensures image { IfErr result (λ fault. IsStop fault → M.image memory.new ≡ M.image memory.old) }
     ensures kept { FramesOf code.now frames.new }
-    ensures picture { IfOk result (λ _. IsPicture (M.image memory.new)) }
-    ensures own { IfOk result (λ _. OwnOf frames.new (M.image memory.new)) }
+    ensures picture { IsPicture (M.image memory.new) }
+    ensures own { OwnOf frames.new (M.image memory.new) }
 {
     let frame = frames.at(frames.len() - 1);
     let function = code.functions.at(frame.function as usize);
@@ -170,7 +170,7 @@ pub fn step<M: Mem>(code: &Code, state: &mut State<M>, input: &[u8]) -> Result<S
     requires steps { state.old.steps + 1 < 2 ^ 64 }
     requires ready { M.ready state.old.memory }
     ensures ready { M.ready state.new.memory }
-    ensures kept { IfOk result (λ _. StateOf code.now (stands M.image state.new)) }
+    ensures kept { StateOf code.now (stands M.image state.new) }
     ensures follows { Follows M.image M.relation (script code.now input.now (control state.old)) state.old.memory (shown state.new result) state.new.memory }
     ensures step { StepsTo code.now input.now (stands M.image state.old) result (stands M.image state.new) }
 {

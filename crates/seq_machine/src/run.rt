@@ -14,7 +14,7 @@ pub fn run_from(code: &Code, state: &mut State<Image>, input: &[u8], n: u64) -> 
     requires code { CodeOk code.now }
     requires state { StateOf code.now state.old }
     requires steps { state.old.steps + n < 2 ^ 64 }
-    ensures kept { IfOk result (λ _. StateOf code.now state.new) }
+    ensures kept { StateOf code.now state.new }
     ensures run { IfOk result (λ end. steps_from code.now input.now state.old n ≡ (end, state.new)) }
     ensures bounded { state.new.steps ≤ state.old.steps + n }
 {

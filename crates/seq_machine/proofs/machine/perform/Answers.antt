@@ -4,7 +4,7 @@ use Rattle.seq_machine.specs.Script.{sent}
 use Rattle.seq_machine.specs.Step.{here}
 use Rattle.seq_machine.proofs.FrameLists.{same_some}
 use Rattle.seq_machine.proofs.Steps.{effect_of, here_of, here_same, performed, cut_off}
-use Rattle.seq_machine.proofs.Owns.{follows_left, own_after, picture_after}
+use Rattle.seq_machine.proofs.Owns.{follows_left, own_after}
 use Rattle.seq_machine.proofs.machine.perform.Goals as goal
 
 pub act-requires-clause-effect : goal.act-requires-clause-effect
@@ -35,7 +35,7 @@ pub returns-in-Ok-clause-picture : goal.returns-in-Ok-clause-picture
 returns-in-Ok-clause-picture g c =
     let left = follows_left g.M.Mem.image g.M.Mem.relation g.met.M.Mem.sound (here_of c.args.code.now c.args.function.now c.at-frame.result.now c.args.site c.args.input.now c.args.input_place.now) c.args.op.now c.in-Ok.effect c.args.memory.now c.execute.new.memory
     c.in-Ok.ensures.effect c.requires.picture c.in-Ok.ensures.follows in
-    picture_after (g.M.Mem.image c.execute.new.memory) c.act.result left.0
+    left.0
 
 pub returns-in-Ok-clause-own : goal.returns-in-Ok-clause-own
 returns-in-Ok-clause-own g c =
@@ -43,4 +43,4 @@ returns-in-Ok-clause-own g c =
     let left = follows_left g.M.Mem.image g.M.Mem.relation g.met.M.Mem.sound (here_of c.args.code.now c.args.function.now c.at-frame.result.now c.args.site c.args.input.now c.args.input_place.now) c.args.op.now c.in-Ok.effect c.args.memory.now c.execute.new.memory
     c.in-Ok.ensures.effect c.requires.picture c.in-Ok.ensures.follows in
     own_after c.args.code.now c.args.function.now c.at-frame.result.now (control_of c.args.frames.now c.args.input_place.now c.args.output.now) c.in-Ok.effect (g.M.Mem.image c.args.memory.now) (g.M.Mem.image c.execute.new.memory)
-    (acted_of c.act.new.frames c.act.new.input_place c.act.new.output) c.act.result c.requires.picture c.requires.own t left.1 (c.act.ensures.acted c.at-frame.result.now t)
+    c.act.new.frames c.act.new.input_place c.act.new.output c.act.result _ _ c.requires.picture c.requires.own t left.1 (c.act.ensures.acted c.at-frame.result.now t) c.act.ensures.err c.act.ensures.stops
