@@ -3,6 +3,8 @@ use Rattle.std.proofs.Common.{arith, rules, ◌≡◌, ◌≢◌, ◌<◌, ◌�
 use Rattle.pv_base.specs.Outside.{Text, AppendsFront, Front, appended, Rose}
 use Rattle.pv_base.proofs.Fronts.{appends_none}
 use Rattle.privateer_core.specs.Answers.{Answers, Delivers, IsAnswer, IsQuiet, IsReported, fault_line}
+use Rattle.command_words.specs.Requests.{Asked}
+use Rattle.privateer_core.specs.Commands.{Wanted, wanted_of}
 use Rattle.privateer_core.specs.declared.answer.Answer.{Answer}
 
 appended_none : (held : Option Text) → appended held [] ≡ held
@@ -29,32 +31,22 @@ not_reported end reported is = grind arith
 no_answer : (end : ℕ) → IsAnswer end → (end ≡ 5) ⊎ (end ≡ 6) ⊎ (end ≡ 7) → ⊥
 no_answer end answer is = grind arith
 
-pub each_wanted : (wanted : Option Answer) (P : Answer → Type 0) → ((w : Answer) → P w) → IfSome wanted P
-each_wanted None P h = tt
-each_wanted (Some w) P h = h w
-
-pub leaves_out : (wanted : Option Answer) (before after : ℕ) (a : Answer) (end : ℕ) (held held' told told' : Option Text)
-    → Answers wanted before after a → Delivers a end held held' told told' → (end ≡ a.status) ⊎ (end ≡ 6)
+pub leaves_out : (Gives : Answer → Type 0) (before after : ℕ) (a : Answer) (end : ℕ) (held held' told told' : Option Text)
+    → Answers Gives before after a → Delivers a end held held' told told' → (end ≡ a.status) ⊎ (end ≡ 6)
     → IsQuiet end → held' ≡ held
-leaves_out wanted before after a end held held' told told' answers delivers is quiet =
+leaves_out Gives before after a end held held' told told' answers delivers is quiet =
     let status : end ≡ a.status = elim is [ inl e ↦ e | inr e ↦ absurd (not_six end e quiet) ] in
     same_after_none held held' a.out (answers.quiet (subst (λ (n : ℕ). IsQuiet n) status quiet)) delivers.out_front
-
-pub delivers_nothing : (w : Answer) (held told : Option Text) → Delivers w 7 held held told told
-delivers_nothing w held told = record {
-  status = λ no. absurd (grind arith);
-  out = λ no. absurd (grind arith);
-  report = λ no. absurd (grind arith);
-  out_front = appends_none held w.out;
-}
 
 weaker : (wanted : Option Answer) (P Q : Answer → Type 0) → ((w : Answer) → P w → Q w) → IfSome wanted P → IfSome wanted Q
 weaker None P Q h p = tt
 weaker (Some w) P Q h p = h w p
 
-front_of_none : (held held' : Option Text) (bytes whole : Text) → bytes ≡ [] → AppendsFront held held' bytes → AppendsFront held held' whole
-front_of_none held held' bytes whole e h =
-    subst (λ (o : Option Text). AppendsFront held o whole) (sym (same_after_none held held' bytes e h)) (appends_none held whole)
+-- what the answer is, is wanted so
+pub wanted_so : (content : Text → Option Text) (asked : Asked) (a : Answer) (Q : Answer → Type 0) → Q a
+    → Wanted content asked (λ w. a ≡ w) → Wanted content asked Q
+wanted_so content asked a Q q w =
+    (w.0, w.1, w.2, weaker (wanted_of content w.0 w.1 asked) (λ x. a ≡ x) Q (λ x is. subst Q is q) w.3)
 
 no_five : (n : ℕ) → IsAnswer n → n ≢ 5
 no_five n answer five = grind arith
@@ -62,53 +54,32 @@ no_five n answer five = grind arith
 six_of : (end status : ℕ) → (end ≡ status) ⊎ (end ≡ 6) → status ≡ 5 → end ≢ 5 → end ≡ 6
 six_of end status is five never = elim is [ inl e ↦ absurd (never (e ∙ five)) | inr six ↦ six ]
 
-pub delivers_wanted : (wanted : Option Answer) (before after : ℕ) (a : Answer) (end : ℕ) (held held' told told' : Option Text)
-    → Answers wanted before after a → Delivers a end held held' told told' → (end ≡ a.status) ⊎ (end ≡ 6)
-    → end ≢ 5 → IfSome wanted (λ w. Delivers w end held held' told told')
-delivers_wanted wanted before after a end held held' told told' answers delivers is never = elim answers.status [
-  | inl answer ↦ weaker wanted _ _ (λ w is. subst (λ (x : Answer). Delivers x end held held' told told') is delivers)
-      (answers.gives (no_five a.status answer))
-  | inr five ↦ each_wanted wanted _ (λ w.
-      let six : end ≡ 6 = six_of end a.status is five never in
-      record {
-        status = λ h. absurd (no_answer end h (inr (inl six)));
-        out = λ h. absurd (no_answer end h (inr (inl six)));
-        report = λ h. absurd (not_reported end h (inl six));
-        out_front = front_of_none held held' a.out w.out (answers.quiet (inr (inr (inl five)))) delivers.out_front;
-      })
-]
+module _ (content : Text → Option Text) (asked : Asked) (before after : ℕ) (a : Answer) (end : ℕ) (held held' told told' : Option Text)
+    (answers : Answers (λ x. Wanted content asked (λ w. x ≡ w)) before after a) (is : (end ≡ a.status) ⊎ (end ≡ 6)) where
+  -- what is wanted is delivered, unless a read failed whose line could not be put
+  pub delivers_wanted : Delivers a end held held' told told' → end ≢ 5
+      → ((end ≡ 6) × (held' ≡ held)) ⊎ Wanted content asked (λ w. Delivers w end held held' told told')
+  delivers_wanted delivers never = elim answers.status [
+    | inl answer ↦ inr (wanted_so content asked a (λ w. Delivers w end held held' told told') delivers (answers.gives (no_five a.status answer)))
+    | inr five ↦ inl (six_of end a.status is five never, same_after_none held held' a.out (answers.quiet (inr (inr (inl five)))) delivers.out_front)
+  ]
 
-five_of : (end status : ℕ) → (end ≡ status) ⊎ (end ≡ 6) → end ≡ 5 → status ≡ 5
-five_of end status is five = elim is [ inl e ↦ omega arith | inr six ↦ absurd (omega arith) ]
+  five_of : end ≡ 5 → a.status ≡ 5
+  five_of five = elim is [ inl e ↦ omega arith | inr six ↦ absurd (omega arith) ]
 
--- a fault of a read is reported by its line
-pub fault_reported : (wanted : Option Answer) (before after : ℕ) (a : Answer) (end : ℕ) (held held' told told' : Option Text)
-    → Answers wanted before after a → Delivers a end held held' told told' → (end ≡ a.status) ⊎ (end ≡ 6)
-    → end ≡ 5 → (name : Text) × (told' ≡ appended told (fault_line name))
-fault_reported wanted before after a end held held' told told' answers delivers is five =
-    let named = answers.named (five_of end a.status is five) in
-    (named.0, delivers.report (inl (omega arith)) ∙ ap (appended told) named.1)
+  -- a fault of a read is reported by its line
+  pub fault_reported : Delivers a end held held' told told' → end ≡ 5 → (name : Text) × (told' ≡ appended told (fault_line name))
+  fault_reported delivers five =
+      let named = answers.named (five_of five) in
+      (named.0, delivers.report (inl (omega arith)) ∙ ap (appended told) named.1)
 
-not_five : (wanted : Option Answer) (before after : ℕ) (a : Answer) → Answers wanted before after a → ¬ Rose before after → a.status ≢ 5
-not_five wanted before after a answers calm five = calm (answers.fault five)
+  not_five : ¬ Rose before after → a.status ≢ 5
+  not_five calm five = calm (answers.fault five)
 
--- where no read failed, the report holds a front of what is wanted
-pub fronts_wanted : (wanted : Option Answer) (before after : ℕ) (a : Answer) (told told' : Option Text)
-    → Answers wanted before after a → AppendsFront told told' a.report → ¬ Rose before after
-    → IfSome wanted (λ w. AppendsFront told told' w.report)
-fronts_wanted wanted before after a told told' answers front calm =
-    weaker wanted _ _ (λ w is. subst (λ (x : Answer). AppendsFront told told' x.report) is front)
-    (answers.gives (not_five wanted before after a answers calm))
+  -- where no read failed, the report holds a front of what is wanted
+  pub fronts_wanted : AppendsFront told told' a.report → ¬ Rose before after → Wanted content asked (λ w. AppendsFront told told' w.report)
+  fronts_wanted front calm = wanted_so content asked a (λ w. AppendsFront told told' w.report) front (answers.gives (not_five calm))
 
-pub fronts_none : (wanted : Option Answer) (told : Option Text) → IfSome wanted (λ w. AppendsFront told told w.report)
-fronts_none wanted told = each_wanted wanted (λ w. AppendsFront told told w.report) (λ w. appends_none told w.report)
-
--- where no read and no write failed, the status is the wanted one
-pub completes : (wanted : Option Answer) (before after : ℕ) (a : Answer) (end : ℕ) → Answers wanted before after a → (end ≡ a.status) ⊎ (end ≡ 6)
-    → ¬ Rose before after → end ≢ 6 → IfSome wanted (λ w. (end ≡ w.status) ⊎ (end ≡ 7))
-completes wanted before after a end answers is calm never =
-    weaker wanted _ _ (λ w same. elim is [ inl e ↦ inl (e ∙ ap (λ (x : Answer). x.status) same) | inr six ↦ absurd (never six) ])
-    (answers.gives (not_five wanted before after a answers calm))
-
-pub completes_none : (wanted : Option Answer) (end : ℕ) → end ≡ 7 → IfSome wanted (λ w. (end ≡ w.status) ⊎ (end ≡ 7))
-completes_none wanted end is = each_wanted wanted (λ w. (end ≡ w.status) ⊎ (end ≡ 7)) (λ w. inr is)
+  -- where no read and no write failed, the status is the wanted one
+  pub completes : ¬ Rose before after → end ≢ 6 → Wanted content asked (λ w. end ≡ w.status)
+  completes calm never = wanted_so content asked a (λ w. end ≡ w.status) (elim is [ inl e ↦ e | inr six ↦ absurd (never six) ]) (answers.gives (not_five calm))

@@ -1,13 +1,4 @@
-pub mod Sites
-pub mod Runs
-pub mod Typed
-pub mod Edges
-pub mod Steps
-pub mod Digits
 pub mod FileLemmas
+pub mod LoadLemmas
+pub mod CommandLemmas
 pub mod DeliverLemmas
-pub mod Pieces
-pub mod NameLemmas
-pub mod Spelling
-pub mod Lawful
-pub mod LineLoops

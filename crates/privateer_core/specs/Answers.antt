@@ -34,13 +34,14 @@ IsReported status = (status < 6) ⊎ (status ≡ 8)
 abbrev pub IsQuiet : ℕ → Type 0
 IsQuiet status = (status ≡ 3) ⊎ (status ≡ 4) ⊎ (status ≡ 5) ⊎ (status ≡ 8)
 
--- an answer made of reads before which the files had one count of faults and after which another
-pub record Answers (wanted : Option Answer) (before after : ℕ) (a : Answer) : Type 0 where
+-- An answer made of reads before which the files had one count of faults and after which another. Unless one failed, it is
+-- what it is to be.
+pub record Answers (Gives : Answer → Type 0) (before after : ℕ) (a : Answer) : Type 0 where
   pub status : IsAnswer a.status ⊎ (a.status ≡ 5)
   pub fault : a.status ≡ 5 → Rose before after
   pub told : before < after → a.status ≡ 5
   pub quiet : IsQuiet a.status → a.out ≡ []
-  pub gives : a.status ≢ 5 → IfSome wanted (λ w. a ≡ w)
+  pub gives : a.status ≢ 5 → Gives a
   pub named : a.status ≡ 5 → (name : Text) × (a.report ≡ fault_line name)
 
 -- the answer to a read that failed

@@ -1,10 +1,3 @@
-pub mod Script
-pub mod Machine
-pub mod Effects
-pub mod Typing
-pub mod Numbers
-pub mod FirstText
-pub mod FirstModule
-pub mod Report
 pub mod Answers
+pub mod Loading
 pub mod Commands

@@ -1,32 +1,29 @@
 //! The commands, up to their answers.
-ghost use Rattle.std.specs.Prelude.{◌≡◌, ◌≢◌, ◌≤◌, ◌↔◌, ◌++◌, codes, Some, IfOk};
-ghost use Rattle.pv_base.specs.Outside.{Text};
+ghost use Rattle.std.specs.Prelude.{◌≡◌, ◌≢◌, ◌≤◌, ◌↔◌, ◌++◌, codes, None, IfOk, IfSome};
 ghost use Rattle.command_words.specs.Requests.{asked_of, asks};
-ghost use Rattle.command_words.specs.PlainLines.{ReadsPlain};
-ghost use Rattle.privateer_core.specs.Answers.{Answers, ReadsFile, refuses, fault_line, too_long_line};
-ghost use Rattle.privateer_core.specs.Commands.{wanted_of, wanted_run, wanted_check, run_module, accepted, IsUsage, IsAnswered, ran, status_of};
-ghost use Rattle.privateer_core.specs.FirstModule.{module_of};
-ghost use Rattle.privateer_core.specs.Machine.{sequential_run};
+ghost use Rattle.command_words.specs.Requests as request;
+ghost use Rattle.seq_run.specs.Outcomes.{outcome_of_run};
+ghost use Rattle.privateer_core.specs.Answers.{Answers, ReadsFile, refuses};
+ghost use Rattle.privateer_core.specs.Commands.{Wanted, RunsLoaded, ChecksLoaded, run_module, IsUsage, IsAnswered, ran, status_of};
 
-use crate::answer::{Answer, refuse};
-use crate::first_text::{FirstEnd, read_first};
-use crate::machine::End;
-use crate::machine::run::run;
-use crate::report::{accepted_line, report_text};
+use crate::answer::{Answer, refusal, refuse};
+use crate::loading::{Loaded, load};
+use checked_code::program::Program;
 use command_words::request::{Request, read_request};
-use first_tree::checked::Checked;
 use pv_base::bytes::Bytes;
 use pv_base::list::List;
 use pv_base::outside::{FileEnd, Files};
 use pv_base::want::Memory;
+use run_report::refusals::accepted_text;
+use run_report::report::report_text;
+use seq_machine::state::End;
+use seq_run::run::run;
 use std::alloc::Global;
 
 /// The most bytes of a module, a profile or an input.
 pub const FILE_LIMIT: usize = 4_194_304;
 
 const ENDED: u8 = 0;
-
-const REFUSED: u8 = 3;
 
 const USAGE: u8 = 4;
 
@@ -83,12 +80,12 @@ fn status_of(end: End) -> u8
     }
 }
 
-/// What the run of a module on an input is answered.
-fn run_answer(alloc: Global, code: &Checked, input: &[u8], budget: u64) -> Result<Answer, Memory>
-    ensures { IfOk result (λ a. a ≡ ran code.now (sequential_run code.now input.now budget)) }
+/// What the run of a program on an input is answered.
+fn run_answer(program: &Program, input: &[u8], budget: u64) -> Result<Answer, Memory>
+    ensures { IfOk result (λ a. a ≡ ran program.now (outcome_of_run program.now input.now budget)) }
 {
-    let outcome = run(alloc, code, input, budget)?;
-    let report = report_text(alloc, code.module(), &outcome)?;
+    let outcome = run(program, input, budget)?;
+    let report = report_text(program.alloc(), program.module(), &outcome)?;
     Ok(Answer {
         status: status_of(outcome.end),
         out: outcome.output,
@@ -96,17 +93,17 @@ fn run_answer(alloc: Global, code: &Checked, input: &[u8], budget: u64) -> Resul
     })
 }
 
-/// Reads the input and runs the module on it.
-fn run_module<F: Files>(
+/// Reads the input and runs the program on it.
+fn run_program<F: Files>(
     alloc: Global,
     files: &mut F,
-    code: &Checked,
+    program: &Program,
     input: &str,
     budget: u64,
 ) -> Result<Answer, Memory>
     ensures content { F.content files.new ≡ F.content files.old }
     ensures later { F.faults files.old ≤ F.faults files.new }
-    ensures answers { IfOk result (λ a. Answers (run_module (F.content files.old) input.now budget (Some code.now)) (F.faults files.old) (F.faults files.new) a) }
+    ensures answers { IfOk result (λ a. Answers (λ a. IfSome (run_module (F.content files.old) program.now input.now budget None) (λ w. a ≡ w)) (F.faults files.old) (F.faults files.new) a) }
     ensures no_usage { IfOk result (λ a. a.status ≢ 4) }
 {
     let mut given = Bytes::new(alloc);
@@ -114,7 +111,29 @@ fn run_module<F: Files>(
         None => {}
         Some(refusal) => return Ok(refusal),
     }
-    run_answer(alloc, code, given.as_slice(), budget)
+    run_answer(program, given.as_slice(), budget)
+}
+
+/// Runs what a module's text was taken for.
+fn run_loaded<F: Files>(
+    alloc: Global,
+    files: &mut F,
+    loaded: Loaded,
+    input: &str,
+    budget: u64,
+) -> Result<Answer, Memory>
+    ensures content { F.content files.new ≡ F.content files.old }
+    ensures later { F.faults files.old ≤ F.faults files.new }
+    ensures answers { IfOk result (λ a. Answers (RunsLoaded (F.content files.old) input.now budget loaded) (F.faults files.old) (F.faults files.new) a) }
+    ensures no_usage { IfOk result (λ a. a.status ≢ 4) }
+{
+    match loaded {
+        Loaded::Refused(line) => Ok(refusal(alloc, line)),
+        Loaded::Accepted(checked) => {
+            let program = Program::new(alloc, checked)?;
+            run_program(alloc, files, &program, input, budget)
+        }
+    }
 }
 
 /// `run MODULE INPUT --budget N`
@@ -127,7 +146,7 @@ fn run_command<F: Files>(
 ) -> Result<Answer, Memory>
     ensures content { F.content files.new ≡ F.content files.old }
     ensures later { F.faults files.old ≤ F.faults files.new }
-    ensures answers { IfOk result (λ a. Answers (wanted_run (F.content files.old) code.now input.now budget) (F.faults files.old) (F.faults files.new) a) }
+    ensures answers { IfOk result (λ a. Answers (λ a. Wanted (F.content files.old) (request.run code.now input.now budget) (λ w. a ≡ w)) (F.faults files.old) (F.faults files.new) a) }
     ensures no_usage { IfOk result (λ a. a.status ≢ 4) }
 {
     let mut text = Bytes::new(alloc);
@@ -135,28 +154,24 @@ fn run_command<F: Files>(
         None => {}
         Some(refusal) => return Ok(refusal),
     }
-    match read_first(alloc, text.as_slice()) {
-        Ok(checked) => run_module(alloc, files, &checked, input, budget),
-        Err(FirstEnd::Memory) => Err(Memory),
-        Err(FirstEnd::Unbuilt) => refuse(alloc, REFUSED, b"refused module\n"),
-    }
+    let loaded = load(alloc, text.as_slice())?;
+    run_loaded(alloc, files, loaded, input, budget)
 }
 
 /// What the check of a module's text is answered.
-fn check_text(alloc: Global, text: &[u8]) -> Result<Answer, Memory>
-    ensures { IfOk result (λ a. a ≡ accepted (module_of text.now)) }
+fn check_loaded(alloc: Global, loaded: Loaded) -> Result<Answer, Memory>
+    ensures { IfOk result (ChecksLoaded loaded) }
 {
-    match read_first(alloc, text) {
-        Ok(checked) => {
-            let out = accepted_line(alloc, checked.module())?;
+    match loaded {
+        Loaded::Refused(line) => Ok(refusal(alloc, line)),
+        Loaded::Accepted(checked) => {
+            let out = accepted_text(alloc, checked.module())?;
             Ok(Answer {
                 status: ENDED,
                 out,
                 report: Bytes::new(alloc),
             })
         }
-        Err(FirstEnd::Memory) => Err(Memory),
-        Err(FirstEnd::Unbuilt) => refuse(alloc, REFUSED, b"refused module\n"),
     }
 }
 
@@ -164,7 +179,7 @@ fn check_text(alloc: Global, text: &[u8]) -> Result<Answer, Memory>
 fn check_command<F: Files>(alloc: Global, files: &mut F, code: &str) -> Result<Answer, Memory>
     ensures content { F.content files.new ≡ F.content files.old }
     ensures later { F.faults files.old ≤ F.faults files.new }
-    ensures answers { IfOk result (λ a. Answers (wanted_check (F.content files.old) code.now) (F.faults files.old) (F.faults files.new) a) }
+    ensures answers { IfOk result (λ a. Answers (λ a. Wanted (F.content files.old) (request.check code.now) (λ w. a ≡ w)) (F.faults files.old) (F.faults files.new) a) }
     ensures no_usage { IfOk result (λ a. a.status ≢ 4) }
 {
     let mut text = Bytes::new(alloc);
@@ -172,7 +187,8 @@ fn check_command<F: Files>(alloc: Global, files: &mut F, code: &str) -> Result<A
         None => {}
         Some(refusal) => return Ok(refusal),
     }
-    check_text(alloc, text.as_slice())
+    let loaded = load(alloc, text.as_slice())?;
+    check_loaded(alloc, loaded)
 }
 
 /// What a request is answered.
@@ -183,7 +199,7 @@ fn answer_request<F: Files>(
 ) -> Result<Answer, Memory>
     ensures content { F.content files.new ≡ F.content files.old }
     ensures later { F.faults files.old ≤ F.faults files.new }
-    ensures answers { IfOk result (λ a. (told : Text) × Answers (wanted_of (F.content files.old) told (asks request.now)) (F.faults files.old) (F.faults files.new) a) }
+    ensures answers { IfOk result (λ a. Answers (λ a. Wanted (F.content files.old) (asks request.now) (λ w. a ≡ w)) (F.faults files.old) (F.faults files.new) a) }
     ensures usage { IfOk result (λ a. (a.status ≡ 4) ↔ IsUsage (asks request.now)) }
     ensures answered { IsAnswered (asks request.now) }
 {
@@ -203,7 +219,7 @@ fn answer_request<F: Files>(
 pub fn answer<F: Files>(alloc: Global, words: &List<Bytes>, files: &mut F) -> Result<Answer, Memory>
     ensures content { F.content files.new ≡ F.content files.old }
     ensures later { F.faults files.old ≤ F.faults files.new }
-    ensures answers { IfOk result (λ a. (told : Text) × Answers (wanted_of (F.content files.old) told (asked_of words.now)) (F.faults files.old) (F.faults files.new) a) }
+    ensures answers { IfOk result (λ a. Answers (λ a. Wanted (F.content files.old) (asked_of words.now) (λ w. a ≡ w)) (F.faults files.old) (F.faults files.new) a) }
     ensures usage { IfOk result (λ a. (a.status ≡ 4) ↔ IsUsage (asked_of words.now)) }
     ensures answered { IfOk result (λ a. IsAnswered (asked_of words.now)) }
 {

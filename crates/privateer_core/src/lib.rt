@@ -3,13 +3,7 @@
 
 pub mod answer;
 pub mod commands;
-#[cfg(test)]
-mod first_tests;
-pub mod first_text;
-pub mod laws;
-pub mod machine;
-pub mod number;
-pub mod report;
+pub mod loading;
 #[cfg(test)]
 mod tests;
 pub mod top;

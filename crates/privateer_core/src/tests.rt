@@ -9,11 +9,14 @@ use std::test::Fail;
 
 const RETURN_ZERO: &str = "define i32 @main() {\n  ret i32 0\n}\n";
 
+const PRINT: &str =
+    "declare i32 @putchar(i32)\ndefine i32 @main() {\n  %p = call i32 @putchar(i32 65)\n  ret i32 0\n}\n";
+
 const RETURN_LEAST: &str = "define i32 @main() {\nentry.1:\n  ret i32 -2147483648\n}\n";
 
 const RETURN_MOST: &str = "define i32 @main() {\n  ret i32 4294967295\n}\n";
 
-pub(crate) fn words_of(alloc: Global, words: &[&str]) -> Result<List<Bytes>, Memory> {
+fn words_of(alloc: Global, words: &[&str]) -> Result<List<Bytes>, Memory> {
     let mut list = List::new(alloc);
     for word in words {
         list.push(Bytes::from_slice(alloc, word.as_bytes())?)?;
@@ -21,11 +24,7 @@ pub(crate) fn words_of(alloc: Global, words: &[&str]) -> Result<List<Bytes>, Mem
     Ok(list)
 }
 
-pub(crate) fn files_of(
-    alloc: Global,
-    entries: &[(&str, &str)],
-    large: &[&str],
-) -> Result<MemFiles, Memory> {
+fn files_of(alloc: Global, entries: &[(&str, &str)], large: &[&str]) -> Result<MemFiles, Memory> {
     let mut list = List::new(alloc);
     for (name, content) in entries {
         let name = Bytes::from_slice(alloc, name.as_bytes())?;
@@ -50,22 +49,16 @@ fn answers_by_status(rt: HostRuntime) -> Result<(), Fail> {
         ("most", RETURN_MOST),
         ("none", ""),
         ("past", "define i32 @main() {\n  ret i32 4294967296\n}\n"),
-        ("below", "define i32 @main() {\n  ret i32 -2147483649\n}\n"),
-        ("label", "define i32 @main() {\n0:\n  ret i32 0\n}\n"),
-        ("cut", "define i32 @main() {\n  ret i32 0\n}"),
         ("i", ""),
     ];
     // module, input, budget; status, report
-    let cases: [(&str, &str, &str, u8, &str); 16] = [
+    let cases: [(&str, &str, &str, u8, &str); 13] = [
         ("zero", "i", "1", 0, "ended 0 steps 1\n"),
         ("zero", "i", "1000000000000", 0, "ended 0 steps 1\n"),
         ("least", "i", "007", 0, "ended -2147483648 steps 1\n"),
         ("most", "i", "1", 0, "ended -1 steps 1\n"),
-        ("none", "i", "1", 3, "refused module\n"),
-        ("past", "i", "1", 3, "refused module\n"),
-        ("below", "i", "1", 3, "refused module\n"),
-        ("label", "i", "1", 3, "refused module\n"),
-        ("cut", "i", "1", 3, "refused module\n"),
+        ("none", "gone", "1", 3, "refused check no-main\n"),
+        ("past", "gone", "1", 3, "refused module line 2 number\n"),
         ("zero", "i", "0", 4, "usage --budget 0\n"),
         (
             "zero",
@@ -98,7 +91,7 @@ fn answers_by_status(rt: HostRuntime) -> Result<(), Fail> {
 fn other_words_are_refused(rt: HostRuntime) -> Result<(), Fail> {
     let alloc = rt.alloc();
     // the words, and how the report begins
-    let cases: [(&[&str], &str); 6] = [
+    let cases: [(&[&str], &str); 7] = [
         (&[], "usage words\n"),
         (&["privateer"], "error: "),
         (&["privateer", "walk", "zero"], "error: "),
@@ -108,6 +101,10 @@ fn other_words_are_refused(rt: HostRuntime) -> Result<(), Fail> {
             "error: ",
         ),
         (&["privateer", "check", "zero", "--budget", "1"], "error: "),
+        (
+            &["privateer", "run", "--budget", "0", "zero", "i"],
+            "usage --budget 0\n",
+        ),
     ];
     let mut files = files_of(alloc, &[("zero", RETURN_ZERO), ("i", "")], &[])?;
     for (words, begins) in &cases {
@@ -134,7 +131,7 @@ fn a_module_is_checked(rt: HostRuntime) -> Result<(), Fail> {
             "accepted functions 1 globals 0 instructions 1\n",
             "",
         ),
-        ("none", 3, "", "refused module\n"),
+        ("none", 3, "", "refused check no-main\n"),
         ("gone", 5, "", "fault reading gone\n"),
         ("large", 8, "", "too long large\n"),
     ];
@@ -180,5 +177,46 @@ fn a_report_that_fails_is_a_write_fault(rt: HostRuntime) -> Result<(), Fail> {
     );
     assert!(rt; out.bytes().is_empty());
     assert!(rt; report.bytes().is_empty());
+    Ok(())
+}
+
+#[test]
+fn an_output_that_fails_is_a_write_fault(rt: HostRuntime) -> Result<(), Fail> {
+    let alloc = rt.alloc();
+    let words = words_of(alloc, &["privateer", "run", "print", "i", "--budget", "9"])?;
+    // the call of the output that fails, its room; what it holds then
+    let cases: [(u32, usize, &[u8]); 2] = [(1, 99, b""), (9, 0, b"")];
+    let mut files = files_of(alloc, &[("print", PRINT), ("i", "")], &[])?;
+    for (failing, room, held) in &cases {
+        let mut out = MemSink::with_room(alloc, *room, List::from_slice(alloc, &[*failing])?)?;
+        let mut report = MemSink::with_room(alloc, 99, List::new(alloc))?;
+        let end = plain_top(alloc, &words, &mut files, &mut out, &mut report);
+        assert_eq!(rt; end, 6);
+        assert!(rt; out.bytes() == *held);
+        assert!(rt; report.bytes().is_empty());
+    }
+    Ok(())
+}
+
+#[test]
+fn a_read_that_fails_is_a_read_fault(rt: HostRuntime) -> Result<(), Fail> {
+    let alloc = rt.alloc();
+    let words = words_of(alloc, &["privateer", "run", "zero", "i", "--budget", "1"])?;
+    // the read that fails; the report
+    let cases: [(u32, &str); 2] = [(1, "fault reading zero\n"), (2, "fault reading i\n")];
+    for (failing, line) in &cases {
+        let mut files = List::new(alloc);
+        for (name, content) in [("zero", RETURN_ZERO), ("i", "")] {
+            let name = Bytes::from_slice(alloc, name.as_bytes())?;
+            files.push((name, Bytes::from_slice(alloc, content.as_bytes())?))?;
+        }
+        let mut files = MemFiles::new(files, List::from_slice(alloc, &[*failing])?);
+        let mut out = MemSink::with_room(alloc, 99, List::new(alloc))?;
+        let mut report = MemSink::with_room(alloc, 99, List::new(alloc))?;
+        let end = plain_top(alloc, &words, &mut files, &mut out, &mut report);
+        assert_eq!(rt; end, 5);
+        assert!(rt; out.bytes().is_empty());
+        assert!(rt; report.bytes() == line.as_bytes());
+    }
     Ok(())
 }

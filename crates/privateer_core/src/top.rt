@@ -4,7 +4,7 @@ ghost use Rattle.pv_base.specs.Outside.{Text, Rose, AppendsFront, appended};
 ghost use Rattle.privateer_core.specs.Answers.{Delivers, IsAnswer, IsQuiet, PutsAll, fault_line};
 ghost use Rattle.command_words.specs.Requests.{asked_of, lacking};
 ghost use Rattle.command_words.specs.PlainLines.{ReadsPlain};
-ghost use Rattle.privateer_core.specs.Commands.{wanted_of, IsUsage, IsAnswered};
+ghost use Rattle.privateer_core.specs.Commands.{Wanted, IsUsage, IsAnswered};
 
 use crate::answer::Answer;
 use crate::commands::answer;
@@ -67,11 +67,11 @@ pub fn plain_top<F: Files, O: Sink, R: Sink>(
     ensures plain { ReadsPlain words.now (asked_of words.now) }
     // Where the files tell their content: the answer that words and content determine is put out and reported. Words that
     // `clap` refuses are answered by some text of its own.
-    ensures delivers { result ≢ 5 → (told : Text) × IfSome (wanted_of (F.content files.old) told (asked_of words.now))
-        (λ w. Delivers w result (O.held out.old) (O.held out.new) (R.held report.old) (R.held report.new)) }
+    ensures delivers { result ≢ 5 → result ≢ 7 → ((result ≡ 6) × (O.held out.new ≡ O.held out.old))
+        ⊎ Wanted (F.content files.old) (asked_of words.now) (λ w. Delivers w result (O.held out.old) (O.held out.new) (R.held report.old) (R.held report.new)) }
     // With no count that rose, the status is that answer's, or 7.
     ensures complete { ¬ Rose (F.faults files.old) (F.faults files.new) → ¬ Rose (O.faults out.old) (O.faults out.new) → ¬ Rose (R.faults report.old) (R.faults report.new)
-        → (told : Text) × IfSome (wanted_of (F.content files.old) told (asked_of words.now)) (λ w. (result ≡ w.status) ⊎ (result ≡ 7)) }
+        → (result ≡ 7) ⊎ Wanted (F.content files.old) (asked_of words.now) (λ w. result ≡ w.status) }
     // What no parse of words gives is answered by want of memory alone.
     ensures answered { (result ≡ 7) ⊎ IsAnswered (asked_of words.now) }
     ensures usage { result ≡ 4 → IsUsage (asked_of words.now) }
@@ -83,8 +83,8 @@ pub fn plain_top<F: Files, O: Sink, R: Sink>(
     ensures write_fault { result ≡ 6 → Rose (O.faults out.old) (O.faults out.new) ⊎ Rose (R.faults report.old) (R.faults report.new) }
     ensures write_told { (O.faults out.old < O.faults out.new) ⊎ (R.faults report.old < R.faults report.new) → (6 ≤ result) × (result ≤ 7) }
     // After a write that failed, the report holds a front of what it would have held.
-    ensures report_front { ¬ Rose (F.faults files.old) (F.faults files.new)
-        → (told : Text) × IfSome (wanted_of (F.content files.old) told (asked_of words.now)) (λ w. AppendsFront (R.held report.old) (R.held report.new) w.report) }
+    ensures report_front { ¬ Rose (F.faults files.old) (F.faults files.new) → result ≢ 7
+        → Wanted (F.content files.old) (asked_of words.now) (λ w. AppendsFront (R.held report.old) (R.held report.new) w.report) }
     ensures memory { result ≡ 7 → (O.held out.new ≡ O.held out.old) × (R.held report.new ≡ R.held report.old) }
 {
     match answer(alloc, words, files) {
