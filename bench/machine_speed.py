@@ -1,5 +1,5 @@
 #!/usr/bin/env python3
-"""Machine steps a second, on a loop that counts and on a loop with two phis and putchar, as the turns double three times.
+"""Machine steps a second, on loops of several kinds, as the turns double three times.
 
     python3 bench/machine_speed.py [TURNS]
 
@@ -46,22 +46,117 @@ done:
 }}
 """
 
-# name, text, steps a turn
-LOOPS = [("count", COUNT, 3), ("two phis, putchar", PRINT, 5)]
+LOADS = """@n = global i32 0
+define i32 @main() {{
+entry:
+  br label %head
+head:
+  %i = phi i32 [ 0, %entry ], [ %j, %head ]
+  %x = load i32, ptr @n
+  %y = add i32 %x, 1
+  store i32 %y, ptr @n
+  %j = add i32 %i, 1
+  %c = icmp ult i32 %j, {turns}
+  br i1 %c, label %head, label %done
+done:
+  ret i32 0
+}}
+"""
+
+TABLE = """@scratch = global [16 x i32] zeroinitializer
+@fmt = constant [4 x i8] c"%d\\0A\\00"
+declare i32 @printf(ptr, ...)
+define i32 @main() {{
+entry:
+  br label %head
+head:
+  %i = phi i32 [ 0, %entry ], [ %j, %head ]
+  %k = and i32 %i, 15
+  %q = getelementptr inbounds [16 x i32], ptr @scratch, i64 0, i32 %k
+  store i32 %k, ptr %q
+  %x = load i32, ptr %q
+  %r = call i32 (ptr, ...) @printf(ptr @fmt, i32 %x)
+  %j = add i32 %i, 1
+  %c = icmp ult i32 %j, {turns}
+  br i1 %c, label %head, label %done
+done:
+  ret i32 0
+}}
+"""
+
+# An object is made and freed in each turn, among `turns` / 4 others.
+OBJECTS = """declare ptr @malloc(i64)
+declare void @free(ptr)
+define i32 @main() {{
+entry:
+  br label %head
+head:
+  %i = phi i32 [ 0, %entry ], [ %j, %last ]
+  %p = call ptr @malloc(i64 1)
+  %w = and i32 %i, 3
+  %z = icmp eq i32 %w, 0
+  br i1 %z, label %last, label %drop
+drop:
+  call void @free(ptr %p)
+  br label %last
+last:
+  %j = add i32 %i, 1
+  %c = icmp ult i32 %j, {turns}
+  br i1 %c, label %head, label %done
+done:
+  ret i32 0
+}}
+"""
+
+CALLS = """define i32 @down(i32 %n) {{
+entry:
+  %z = icmp eq i32 %n, 0
+  br i1 %z, label %end, label %more
+more:
+  %m = sub i32 %n, 1
+  %r = call i32 @down(i32 %m)
+  ret i32 %r
+end:
+  ret i32 0
+}}
+define i32 @main() {{
+entry:
+  br label %head
+head:
+  %i = phi i32 [ 0, %entry ], [ %j, %head ]
+  %r = call i32 @down(i32 1000)
+  %j = add i32 %i, 1
+  %k = mul i32 %j, 5000
+  %c = icmp ult i32 %k, {turns}
+  br i1 %c, label %head, label %done
+done:
+  ret i32 0
+}}
+"""
+
+# name, text
+LOOPS = [
+    ("count", COUNT),
+    ("two phis, putchar", PRINT),
+    ("load and store", LOADS),
+    ("table, printf", TABLE),
+    ("malloc and free", OBJECTS),
+    ("calls 1000 deep", CALLS),
+]
 
 
 def least(command):
     best = None
     for _ in range(3):
         begun = time.perf_counter()
-        subprocess.run(command, stdout=subprocess.DEVNULL, stderr=subprocess.DEVNULL, check=True)
+        subprocess.run(command, stdout=subprocess.DEVNULL, stderr=subprocess.DEVNULL, check=True, timeout=600)
         taken = time.perf_counter() - begun
         best = taken if best is None else min(best, taken)
     return best
 
 
 def main():
-    turns = int(sys.argv[1]) if len(sys.argv) > 1 else 1_000_000
+    turns = int(sys.argv[1]) if len(sys.argv) > 1 else 250_000
     if not os.path.exists(PROGRAM):
         sys.exit("no program at " + PROGRAM + ": build it by `rt run` in crates/privateer")
     lli = shutil.which("lli-16")
@@ -70,12 +165,18 @@ def main():
         module = os.path.join(folder, "loop.ll")
         empty = os.path.join(folder, "empty")
         open(empty, "w").close()
-        for name, text, steps_a_turn in LOOPS:
+        for name, text in LOOPS:
             for factor in (1, 2, 4, 8):
                 with open(module, "w") as file:
                     file.write(text.format(turns=turns * factor))
-                steps = steps_a_turn * turns * factor + 2
-                taken = least([PROGRAM, "run", module, empty, "--budget", str(steps)])
+                command = [PROGRAM, "run", module, empty, "--budget", "1000000000"]
+                ran = subprocess.run(command, stdout=subprocess.DEVNULL, stderr=subprocess.PIPE, text=True)
+                end = ran.stderr.split("\n")[0]
+                if not end.startswith("ended"):
+                    print(f"{name:20} {turns * factor:>10} {end}")
+                    continue
+                steps = int(end.split()[-1])
+                taken = least(command)
                 other = "-"
                 if lli:
                     other = f"{least([lli, '-force-interpreter', '-jit-kind=mcjit', module]):.2f}"
