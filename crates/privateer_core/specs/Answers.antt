@@ -55,6 +55,8 @@ pub record Delivers (wanted : Answer) (end : ℕ) (held held' told told' : Optio
   pub out : IsAnswer end → held' ≡ appended held wanted.out
   pub report : IsReported end → told' ≡ appended told wanted.report
   pub out_front : AppendsFront held held' wanted.out
+  -- the report is put behind the output
+  pub order : (held' ≡ appended held wanted.out) ⊎ (told' ≡ told)
 
 -- how the read of a file ends: with its text, or with a refusal
 abbrev pub ReadsFile : Option Text → Text → ℕ → ℕ → Text → Option Answer → Type 0
