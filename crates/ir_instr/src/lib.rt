@@ -17,6 +17,4 @@ pub mod parts;
 pub mod reading;
 pub mod selecting;
 pub mod switching;
-#[cfg(test)]
-mod tests;
 pub mod words;
