@@ -4,3 +4,4 @@ pub mod Ranges
 pub mod Signs
 pub mod Quotients
 pub mod Widths
+pub mod LittleEndian

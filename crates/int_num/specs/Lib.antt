@@ -2,3 +2,4 @@ pub mod Integer
 pub mod Laws
 pub mod Operations
 pub mod Reductions
+pub mod Bytes

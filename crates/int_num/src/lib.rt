@@ -4,6 +4,7 @@
 mod arithmetic;
 pub mod binary;
 mod bits;
+pub mod bytes;
 pub mod cast;
 pub mod compare;
 mod division;

@@ -34,7 +34,8 @@ pub fn signed(a: Int) -> i64
 
 /// The low eight bits.
 pub fn low_byte(a: Int) -> u8
-    ensures { result ≡ low_byte a }
+    ensures value { result ≡ low_byte a }
+    ensures whole { a.width ≡ 8 → result ≡ a.bits }
 {
     (a.bits() % 256) as u8
 }

@@ -1,3 +1,2 @@
-pub mod LowBytes
 pub mod Advancing
 pub mod Globals

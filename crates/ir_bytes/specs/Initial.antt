@@ -1,6 +1,7 @@
 -- The first bytes of globals, and the memory in which a program starts.
-use Rattle.std.specs.Prelude.{ℕ, zero, suc, ◌≤◌, ◌+◌, ◌-◌, ◌/◌, ◌%◌, max, Bool, true, false, List, [], ◌∷◌, ◌++◌, length, map, replicate, Option}
+use Rattle.std.specs.Prelude.{ℕ, ◌≤◌, ◌+◌, ◌-◌, ◌%◌, max, Bool, true, false, List, [], ◌∷◌, ◌++◌, length, map, replicate, Option}
 use Rattle.std.specs.Option.{option_map_or}
+use Rattle.int_num.specs.Bytes as number
 use Rattle.pv_base.specs.declared.place.AllocSite.TheVariants as site
 use Rattle.ir_tree.specs.declared.items.Global.{Global as Variable}
 use Rattle.ir_tree.specs.Trees.{TypeV}
@@ -24,8 +25,7 @@ zeros n = replicate n (Num 0)
 
 -- so many bytes of a number, the low ones first
 abbrev pub low_bytes : ℕ → ℕ → List Byte
-low_bytes zero bits = []
-low_bytes (suc n) bits = Num (bits % 256) ∷ low_bytes n (bits / 256)
+low_bytes n bits = map Num (number.low_bytes n bits)
 
 -- how many bytes an integer of a width takes
 abbrev pub byte_count : ℕ → ℕ

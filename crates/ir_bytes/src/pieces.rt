@@ -1,9 +1,10 @@
 //! Pieces of bytes: numbers, pointers, texts and padding.
-ghost use Rattle.std.specs.Prelude.{◌≡◌, ◌<◌, ◌++◌, ◌/◌, map, max, length, replicate, OnOk};
+ghost use Rattle.std.specs.Prelude.{◌≡◌, ◌<◌, ◌≤◌, ◌++◌, ◌/◌, map, max, length, replicate, OnOk};
 ghost use Rattle.ir_tree.specs.Naming.{type_at};
 ghost use Rattle.mem_image.specs.declared.object.Byte.TheVariants.{Num};
 ghost use Rattle.ir_bytes.specs.Initial.{zeros, low_bytes, byte_count, pointer_bytes, fixed_bytes, scalar_bytes, size_in, align_in, aligned_in, gap};
 
+use int_num::bytes::low_bytes;
 use int_num::int::Int;
 use ir_code::op::Fixed;
 use ir_tree::nodes::TypeId;
@@ -41,15 +42,15 @@ pub(crate) fn push_text(bytes: &mut List<Byte>, text: &[u8]) -> Result<(), Memor
 }
 
 /// Appends so many bytes of a number, the low ones first.
-pub(crate) fn push_low_bytes(bytes: &mut List<Byte>, count: u64, bits: u64) -> Result<(), Memory>
-    ensures { OnOk result (bytes.new ≡ bytes.old ++ low_bytes count bits) }
+pub(crate) fn push_low_bytes(
+    bytes: &mut List<Byte>,
+    count: usize,
+    number: Int,
+) -> Result<(), Memory>
+    requires { count ≤ 8 }
+    ensures { OnOk result (bytes.new ≡ bytes.old ++ low_bytes count number.bits) }
 {
-    let mut rest = bits;
-    for _ in 0..count {
-        bytes.push(Byte::Num((rest % 256) as u8))?;
-        rest /= 256;
-    }
-    Ok(())
+    push_text(bytes, &low_bytes(number)[..count])
 }
 
 /// Appends the eight bytes of a pointer.
@@ -66,8 +67,9 @@ pub(crate) fn push_pointer(bytes: &mut List<Byte>, pointer: Pointer) -> Result<(
 }
 
 /// How many bytes an integer takes: those of a width that has a layout.
-pub(crate) fn byte_count(number: Int) -> u64
-    ensures { result ≡ byte_count number.width }
+pub(crate) fn byte_count(number: Int) -> usize
+    ensures value { result ≡ byte_count number.width }
+    ensures most { result ≤ 8 }
 {
     match number.width() {
         1 | 8 => 1,
@@ -83,7 +85,7 @@ pub(crate) fn push_fixed(bytes: &mut List<Byte>, value: Fixed) -> Result<(), Mem
     ensures { OnOk result (bytes.new ≡ bytes.old ++ fixed_bytes value) }
 {
     match value {
-        Fixed::Int(number) => push_low_bytes(bytes, byte_count(number), number.bits()),
+        Fixed::Int(number) => push_low_bytes(bytes, byte_count(number), number),
         Fixed::Null | Fixed::Nowhere => push_zeros(bytes, 8),
         Fixed::Global { index, offset } => push_pointer(
             bytes,

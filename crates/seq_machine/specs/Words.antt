@@ -1,5 +1,6 @@
 -- A value as bytes of memory, and bytes as a value (LLVM Language Reference, "Memory Access and Addressing Operations").
-use Rattle.std.specs.Prelude.{ℕ, zero, suc, ◌+◌, ◌*◌, ◌/◌, ◌%◌, ◌^◌, ◌==◌, ◌&&◌, nat_lt, List, [], ◌∷◌, Option, None, Some, option_map, Result, Ok, Err, Bool, true, false, if◌then◌else◌}
+use Rattle.std.specs.Prelude.{ℕ, ◌+◌, ◌*◌, ◌^◌, ◌==◌, ◌&&◌, nat_lt, List, [], ◌∷◌, map, Option, None, Some, option_map, Result, Ok, Err, Bool, true, false, if◌then◌else◌}
+use Rattle.int_num.specs.Bytes.{low_bytes}
 use Rattle.int_num.specs.Operations.{of_bits}
 use Rattle.ir_code.specs.declared.op.Scalar.{Scalar}
 use Rattle.ir_code.specs.declared.op.Scalar.TheVariants as scalar
@@ -27,8 +28,7 @@ word_length scalar.Pointer = Some 8
 
 -- so many bytes of a number, the least first
 abbrev pub number_bytes : ℕ → ℕ → List Byte
-number_bytes zero n = []
-number_bytes (suc k) n = Num (n % 256) ∷ number_bytes k (n / 256)
+number_bytes len n = map Num (low_bytes len n)
 
 -- the eight bytes of a pointer, each of which knows which it is
 abbrev pub pointer_bytes : Address → List Byte

@@ -216,7 +216,7 @@ fn fill<M: Mem>(
     if value.width() != 8 {
         return Err(Fault::Trap(Trap::Unreachable));
     }
-    memory.fill(at, to, value.bits() as u8, len.bits())?;
+    memory.fill(at, to, low_byte(value), len.bits())?;
     Ok(Effect::Next)
 }
 

@@ -8,6 +8,7 @@ ghost use Rattle.seq_machine.specs.Words.{word_length, number_bytes, pointer_byt
 use crate::numbers::same_pointer;
 use crate::state::Value;
 use crate::values::is_of;
+use int_num::bytes::{low_bytes, with_low_byte};
 use int_num::int::Int;
 use ir_code::op::Scalar;
 use mem_image::fault::Trap;
@@ -32,16 +33,15 @@ pub fn word_length(of: Scalar) -> Option<u32>
 }
 
 /// The bytes of a number, the least first.
-fn number_word(len: u32, number: u64) -> Word
+fn number_word(len: u32, number: Int) -> Word
     requires some { 1 ≤ len }
     requires most { len ≤ 8 }
-    ensures { result ≡ number_bytes len number }
+    ensures { result ≡ number_bytes len number.bits }
 {
+    let from = low_bytes(number);
     let mut bytes = [Byte::Num(0); 8];
-    let mut rest = number;
     for i in 0..len as usize {
-        bytes[i] = Byte::Num((rest % 256) as u8);
-        rest /= 256;
+        bytes[i] = Byte::Num(from[i]);
     }
     Word::of(&bytes[..len as usize])
 }
@@ -75,7 +75,7 @@ pub fn store_word(of: Scalar, value: &Value) -> Result<Word, Trap>
     match word_length(of) {
         None => Err(Trap::Unreachable),
         Some(len) => match value {
-            Value::Int(n) => Ok(number_word(len, n.bits())),
+            Value::Int(n) => Ok(number_word(len, *n)),
             Value::Pointer(p) => Ok(pointer_word(*p)),
         },
     }
@@ -91,7 +91,7 @@ fn number_of(bytes: &[Byte]) -> Option<u64>
     while i > 0 {
         i -= 1;
         match bytes[i] {
-            Byte::Num(byte) => number = number * 256 + u64::from(byte),
+            Byte::Num(byte) => number = with_low_byte(number, byte),
             _ => return None,
         }
     }

@@ -1,22 +1,18 @@
-use Rattle.std.proofs.Common.{◌≡◌, ◌-◌, length, arith, sym, suc, lit<}
+use Rattle.std.proofs.Common.{◌≡◌, ◌-◌, length, arith, sym, suc}
 use Rattle.mem_image.specs.declared.object.Byte.TheVariants.{Unset}
 use Rattle.seq_machine.proofs.WordLoops.{byte_fits, byte_more, number_more, no_number}
 use Rattle.seq_machine.proofs.words.number_of.Goals as goal
 
-pub overflow_mul-number : goal.overflow_mul-number
-overflow_mul-number c = let h = byte_fits (length c.args.bytes.now - c.loop-i.i) c.loop-i.number 0 (omega arith) c.loop-i.invariant.2 (lit< tt) in omega arith
-
-pub overflow_add-number : goal.overflow_add-number
-overflow_add-number c =
-    let h = byte_fits (length c.args.bytes.now - c.loop-i.i) c.loop-i.number c.from.result (omega arith) c.loop-i.invariant.2 (omega arith) in omega arith
+pub with_low_byte-requires : goal.with_low_byte-requires
+with_low_byte-requires c = byte_fits (length c.args.bytes.now - c.loop-i.i) c.loop-i.number (omega arith) c.loop-i.invariant.2
 
 pub loop-i-preserved : goal.loop-i-preserved
 loop-i-preserved c =
     let same : c.loop-i.i ≡ suc (c.loop-i.i - 1) = omega arith in
     let gap : length c.args.bytes.now - (c.loop-i.i - 1) ≡ suc (length c.args.bytes.now - c.loop-i.i) = omega arith in (
       omega arith,
-      number_more c.args.bytes.now c.loop-i.i (c.loop-i.i - 1) c.from.result c.loop-i.number Unset same c.loop-i.invariant.0 (rw c.from.ensures c.in-Num.is) c.loop-i.invariant.1,
-      rw gap (byte_more (length c.args.bytes.now - c.loop-i.i) c.loop-i.number c.from.result c.loop-i.invariant.2 (omega arith)),
+      rw c.with_low_byte.ensures (number_more c.args.bytes.now c.loop-i.i (c.loop-i.i - 1) c.in-Num.byte c.loop-i.number Unset same c.loop-i.invariant.0 c.in-Num.is c.loop-i.invariant.1),
+      rw (c.with_low_byte.ensures, gap) (byte_more (length c.args.bytes.now - c.loop-i.i) c.loop-i.number c.in-Num.byte c.loop-i.invariant.2 (omega arith)),
     )
 
 pub returns-in_default : goal.returns-in_default
