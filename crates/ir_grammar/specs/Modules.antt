@@ -1,27 +1,12 @@
--- A module, written out with its names, types and constants, and what of it was read so far.
-use Rattle.std.specs.Prelude.{ℕ, ◌+◌, List, [], ◌∷◌, ◌++◌, map}
+-- The items of a text, and what of its module was read so far.
+use Rattle.std.specs.Prelude.{ℕ, ◌+◌, List, [], ◌∷◌, ◌++◌}
 use Rattle.pv_base.specs.declared.name.Name.{Name}
 use Rattle.ir_tree.specs.declared.items.NamedType.{NamedType}
 use Rattle.ir_tree.specs.declared.items.Global.{Global}
 use Rattle.ir_tree.specs.declared.items.Function.{Function}
 use Rattle.ir_tree.specs.Table.{with_name}
 use Rattle.ir_tree.specs.Trees.{TypeV, ConstantV}
-use Rattle.ir_tree.specs.Shown.{shown_named, shown_global, shown_function}
-use Rattle.ir_tree.specs.Modules.{Items}
-
--- a module, its items in text order
-pub record ModuleV : Type 0 where
-  pub types : List (NamedType Name TypeV)
-  pub globals : List (Global Name TypeV ConstantV)
-  pub functions : List (Function Name TypeV ConstantV)
-
--- a module of a table, written out: the numbers that the table gives are no part of it
-abbrev pub shown_module : Items → ModuleV
-shown_module m = record {
-  types = map (shown_named m.names) m.types;
-  globals = map (shown_global m.names) m.globals;
-  functions = map (shown_function m.names) m.functions;
-}
+pub use Rattle.ir_tree.specs.Written.{ModuleV, shown_module}
 
 -- an item of a text
 pub data Item : Type 0 where

@@ -6,3 +6,4 @@ pub mod Layouts
 pub mod Bounds
 pub mod Filling
 pub mod Modules
+pub mod Written
