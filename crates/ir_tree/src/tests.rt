@@ -229,7 +229,7 @@ fn lays_deep_types_out(rt: HostRuntime) -> Result<(), Fail> {
     );
     assert_eq!(rt; doubled(rt.alloc(), 63)?, None);
     assert_eq!(rt;
-        nested(rt.alloc(), 1000)?,
+        nested(rt.alloc(), 1_000_000)?,
         Some(Layout { size: 1, align: 1 })
     );
     Ok(())
