@@ -1,20 +1,20 @@
 -- The commands, on plain command lines.
-use Rattle.std.proofs.Common.{◌≡◌, ◌++◌, ◌∙◌, sym, ap, refl, Bool, true, false, not, ◌&&◌, ◌||◌, List, [], ◌∷◌, Option, Some, None, find, codes, unwrap_or, option_map, subst, rules, arith, length}
+use Rattle.std.proofs.Common.{◌≡◌, ◌∙◌, ap, refl, Bool, true, false, ◌||◌, List, [], ◌∷◌, Some, find, codes, unwrap_or, option_map, subst, arith, length}
 use Rattle.std.specs.Prelude.{nat_lt}
 use Rattle.std.proofs.lemmas.Bool.{lt-ltb}
 use Rattle.std.specs.Bool.{if◌then◌else◌}
 use Rattle.std.specs.Str.{bytes_eq}
-use Rattle.clap.specs.Words.{App, Text, Row, Kinds, subcommand_of, fault_of, first_of}
+use Rattle.clap.specs.Words.{App, Text, Row, first_of}
 use Rattle.clap.specs.Simple.{Shape, built, names_of, label_of, entered}
-use Rattle.clap.specs.Walk.{answers_to, rows_after, nothing_held, stop_after}
-use Rattle.clap.specs.Faults.{level_fault, built_fault}
+use Rattle.clap.specs.Walk.{answers_to, nothing_held, stop_after}
+use Rattle.clap.specs.Faults.{built_fault}
 use Rattle.clap.proofs.OnLiterals.{clap_on_literals}
 use Rattle.command_words.specs.Texts.{are_texts}
 use Rattle.command_words.specs.CommandLine.{whole_app, whole_literal}
 use Rattle.command_words.specs.Plain.{Item, words_of, pairs_of, value_in, has_name, ArePlain, AllNamed}
 use Rattle.command_words.specs.PlainLines.{IsPlainLine, ReadsPlain, text_in, run_names, run_options, check_names}
-use Rattle.command_words.specs.Requests.{Asked, are_words, asked_of, asked_of_texts, asked_by, asked_in, asked_run, run_of, check_of, check, usage, usage_words, faults, matches}
-use Rattle.command_words.proofs.PlainWalk.{IsPlainShape, IsOption, IsPositional, lacks, rows_for, plain_rows, plain_faults, first_value_in, given_name, places_named}
+use Rattle.command_words.specs.Requests.{are_words, asked_of, asked_of_texts, asked_in, asked_run, check, faults, matches}
+use Rattle.command_words.proofs.PlainWalk.{IsPlainShape, IsOption, lacks, rows_for, plain_rows, plain_faults, first_value_in, given_name, places_named}
 use Rattle.command_words.proofs.Entered.{Enters, enters_rows, enters_faults}
 
 abbrev whole_built : App

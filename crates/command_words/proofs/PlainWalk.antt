@@ -1,17 +1,17 @@
 -- The walk of `clap` over plain words.
-use Rattle.std.proofs.Common.{arith, rules, ◌≡◌, ◌⊎◌, ◌++◌, ◌∙◌, ◌&&◌, ◌||◌, ◌==◌, ◌+◌, min, inl, inr, sym, ap, refl, cond, not, ℕ, Bool, true, false, List, [], ◌∷◌, Option, Some, None, find, option_map, option_and_then, slice_get, map, length, subst, eq-eqb, append-nil, append_assoc, fold}
+use Rattle.std.proofs.Common.{◌≡◌, ◌++◌, ◌∙◌, ◌&&◌, ◌||◌, ◌==◌, ◌+◌, min, inl, inr, sym, ap, refl, not, ℕ, Bool, true, false, List, [], ◌∷◌, Option, Some, None, find, option_map, option_and_then, slice_get, map, subst, eq-eqb, append-nil, append_assoc, fold}
 use Rattle.std.proofs.lemmas.List.{map-append}
 use Rattle.std.specs.List.{list_any}
 use Rattle.std.specs.Str.{bytes_eq}
 use Rattle.std.specs.Bool.{if◌then◌else◌}
 use Rattle.std.specs.Option.{option_map_or}
-use Rattle.clap.specs.Words.{Text, Row, Rule, Kinds, first_of}
+use Rattle.clap.specs.Words.{Text, Row, Rule, first_of}
 use Rattle.clap.specs.Takes.{is_given}
 use Rattle.clap.specs.Facts.{explicit_source}
 use Rattle.clap.specs.Lexer.{long_of, short_of, usize_max}
 use Rattle.clap.specs.Simple.{Shape}
-use Rattle.clap.specs.Walk.{Held, Walk, Waiting, idle, walked, walked_from, word_met, settled_rows, used, used_by_id, at_row, without, with_values, more_values, has_row, arg_by_id, arg_by_index, arg_by_long, with_default, rows_after, nothing_held}
-use Rattle.clap.specs.Faults.{walk_fault, turn_fault, settle_fault, use_fault, repeat_fault, defaults_fault, level_fault}
+use Rattle.clap.specs.Walk.{Walk, idle, walked, settled_rows, used, at_row, without, more_values, has_row, arg_by_id, arg_by_index, arg_by_long, with_default, rows_after, nothing_held}
+use Rattle.clap.specs.Faults.{walk_fault, turn_fault, settle_fault, defaults_fault, level_fault}
 use Rattle.clap.specs.declared.builder.ArgAction.TheVariants.{Set}
 use Rattle.clap.specs.declared.parser.matches.ValueSource.TheVariants.{CommandLine}
 use Rattle.clap.specs.declared.builder.value_parser.Reading.TheVariants.{AsWritten}

@@ -1,14 +1,14 @@
 -- What the words ask for, by the name of the command.
-use Rattle.std.proofs.Common.{◌≡◌, true, false, List, [], ◌∷◌, Option, Some, None, codes, refl, ap, sym, ◌∙◌}
+use Rattle.std.proofs.Common.{◌≡◌, true, false, List, [], ◌∷◌, Option, Some, None, codes, refl, ap}
 use Rattle.std.specs.Str.{bytes_eq}
 use Rattle.clap.specs.Words.{Row, Text, first_of, is_simple, is_simple_and_free, Kinds, HasMatchesOf, subcommand_rows_of, subcommand_name_of, App, fault_of, HasKind, IsAmong, kind_of}
 use Rattle.clap.specs.declared.Error.{Error}
 use Rattle.clap.specs.declared.error.ErrorKind.TheVariants.{OutOfMemory}
-use Rattle.std.proofs.Common.{option_map, inl, inr, ◌≢◌, ◌⊎◌, subst}
+use Rattle.std.proofs.Common.{option_map, inl, inr, ◌≢◌, subst}
 use Rattle.clap.proofs.OnLiterals.{clap_on_literals}
 use Rattle.clap.specs.declared.ArgMatches.{ArgMatches}
 use Rattle.command_words.specs.CommandLine.{whole_app}
-use Rattle.command_words.specs.Requests.{Asked, asked_in, run_of, check_of, refused, lacking, asked_of_texts, asked_of_matches, asked_by, faults, matches}
+use Rattle.command_words.specs.Requests.{asked_in, run_of, check_of, refused, lacking, asked_of_texts, asked_of_matches, asked_by, faults, matches}
 
 pub asked_in-run : (name : Text) (rows : List Row) → bytes_eq name (codes "run") ≡ true
     → asked_in name rows ≡ run_of (first_of (codes "MODULE") rows) (first_of (codes "INPUT") rows) (first_of (codes "budget") rows)

@@ -1,5 +1,5 @@
 -- The command line as `clap` has it: the commands, each with its positional words and its options.
-use Rattle.std.specs.Prelude.{Bool, true, false, [], ◌∷◌, Some, codes}
+use Rattle.std.specs.Prelude.{Bool, true, Some, codes}
 use Rattle.clap.specs.Words.{App, Rule, Text, new_app, new_rule, with_rule, with_subcommand}
 use Rattle.clap.specs.declared.builder.action.ArgAction.TheVariants.{Set}
 

@@ -1,5 +1,5 @@
 -- Numbers in words.
-use Rattle.std.specs.Prelude.{◌+◌, ◌-◌, ◌*◌, ◌&&◌, ℕ, List, [], ◌∷◌, length, Option, Some, None, nat_lt, nat_le, if◌then◌else◌, option_and_then}
+use Rattle.std.specs.Prelude.{◌+◌, ◌-◌, ◌*◌, ◌&&◌, ℕ, [], ◌∷◌, length, Option, Some, None, nat_lt, nat_le, if◌then◌else◌, option_and_then}
 use Rattle.std.specs.Char.{is_ascii_digit}
 use Rattle.pv_base.specs.Outside.{Text}
 

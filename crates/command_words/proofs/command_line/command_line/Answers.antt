@@ -1,7 +1,7 @@
-use Rattle.std.proofs.Common.{◌≡◌, ◌∙◌, ap, ap₂, refl}
-use Rattle.clap.specs.Words.{App, app_of, with_subcommand}
+use Rattle.std.proofs.Common.{◌∙◌, ap, ap₂}
+use Rattle.clap.specs.Words.{App, with_subcommand}
 use Rattle.clap.specs.Simple.{Shape}
-use Rattle.command_words.specs.CommandLine.{whole_app, run_app, check_app}
+use Rattle.command_words.specs.CommandLine.{whole_app}
 use Rattle.command_words.proofs.command_line.command_line.Goals as goal
 
 abbrev top : App → Shape

@@ -1,4 +1,4 @@
-use Rattle.std.proofs.Common.{◌≡◌, ◌∙◌, sym, ap, map, Some, None, IfOk, rules, refl}
+use Rattle.std.proofs.Common.{◌∙◌, sym, ap, map}
 use Rattle.std.proofs.lemmas.Result.{IfOk-weaker}
 use Rattle.command_words.proofs.ReadLemmas.{words_taken, words_refused, entered_is}
 use Rattle.command_words.specs.Requests.{asked_of_matches}

@@ -1,5 +1,4 @@
-use Rattle.std.proofs.Common.{rules, arith, ◌≡◌, ◌∙◌, refl, ap, get_or}
-use Rattle.command_words.specs.Texts.{is_text}
+use Rattle.std.proofs.Common.{arith, ◌≡◌, ◌∙◌, get_or}
 use Rattle.command_words.proofs.TextLemmas.{text_if_utf8, no_text_if_not_utf8, one_is_no_text, one_more_text, one_more_now}
 use Rattle.command_words.proofs.texts.texts.Goals as goal
 
