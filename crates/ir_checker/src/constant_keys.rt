@@ -1,5 +1,5 @@
 //! Keys of constants: two constants are the same exactly where their keys are, so that the constants of a table are not compared in pairs.
-ghost use Rattle.std.specs.Prelude.{◌≡◌, ℕ, ◌+◌, ◌≤◌, ◌<◌, [], ◌∷◌, map, length, slice_get, Some, IfOk, OnOk};
+ghost use Rattle.std.specs.Prelude.{◌≡◌, ℕ, ◌+◌, ◌≤◌, ◌<◌, [], map, length, slice_get, Some, IfOk, OnOk};
 ghost use Rattle.ir_rules.specs.Classes.{class_at};
 ghost use Rattle.ir_checker.specs.ConstantKeys.{constant_key, elements_key};
 ghost use Rattle.ir_checker.specs.declared.constant_keys.ConstantKey.{ConstantKey};

@@ -68,7 +68,7 @@ fn next_kind(
     names.is_table();
     match names.constant_node(kinds.len() as u32) {
         Some(node) => kind_of(alloc, names, classes, kinds, keys, node),
-        None => Err(Memory),
+        None => unreachable!(),
     }
 }
 

@@ -69,7 +69,7 @@ fn next_class(
     names.is_table();
     match names.type_node(classes.len() as u32) {
         Some(node) => class_of(alloc, names, classes, keys, node),
-        None => Err(Memory),
+        None => unreachable!(),
     }
 }
 

@@ -1,5 +1,5 @@
 //! Keys of types: two types are the same exactly where their keys are, so that the types of a table are not compared in pairs.
-ghost use Rattle.std.specs.Prelude.{◌≡◌, ℕ, ◌+◌, ◌≤◌, ◌<◌, [], ◌∷◌, map, length, slice_get, Some, IfOk, OnOk};
+ghost use Rattle.std.specs.Prelude.{◌≡◌, ℕ, ◌+◌, ◌≤◌, ◌<◌, [], map, length, slice_get, Some, IfOk, OnOk};
 ghost use Rattle.ir_rules.specs.Classes.{class_at};
 ghost use Rattle.ir_rules.specs.TypeKeys.{type_key};
 ghost use Rattle.ir_rules.specs.declared.type_keys.TypeKey.{TypeKey};

@@ -1,4 +1,4 @@
-use Rattle.std.proofs.Common.{◌≡◌, length, ap, arith}
+use Rattle.std.proofs.Common.{length, ap, arith}
 use Rattle.ir_checker.proofs.ConstantKeyLemmas.{key_first}
 use Rattle.ir_checker.proofs.kinds.first_keys.Goals as goal
 

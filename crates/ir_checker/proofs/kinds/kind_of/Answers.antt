@@ -1,4 +1,4 @@
-use Rattle.std.proofs.Common.{◌≡◌, Some, sym, ap, ◌∙◌}
+use Rattle.std.proofs.Common.{Some, sym, ap, ◌∙◌}
 use Rattle.ir_checker.proofs.ConstantKeyLemmas.{key_kind, key_more}
 use Rattle.ir_checker.proofs.kinds.kind_of.Goals as goal
 

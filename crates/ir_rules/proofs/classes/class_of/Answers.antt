@@ -1,4 +1,4 @@
-use Rattle.std.proofs.Common.{◌≡◌, Some, sym, ap, ◌∙◌}
+use Rattle.std.proofs.Common.{Some, sym, ap, ◌∙◌}
 use Rattle.ir_rules.proofs.TypeKeyLemmas.{key_class, key_more}
 use Rattle.ir_rules.proofs.classes.class_of.Goals as goal
 

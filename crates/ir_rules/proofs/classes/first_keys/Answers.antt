@@ -1,4 +1,4 @@
-use Rattle.std.proofs.Common.{◌≡◌, length, ap, arith}
+use Rattle.std.proofs.Common.{length, ap, arith}
 use Rattle.ir_rules.proofs.TypeKeyLemmas.{key_first}
 use Rattle.ir_rules.proofs.classes.first_keys.Goals as goal
 

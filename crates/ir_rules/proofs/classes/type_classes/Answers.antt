@@ -1,4 +1,4 @@
-use Rattle.std.proofs.Common.{◌≡◌, length, arith, sym, ◌∙◌, ap}
+use Rattle.std.proofs.Common.{length, arith, ◌∙◌, ap}
 use Rattle.std.proofs.lemmas.List.{length_push}
 use Rattle.ir_rules.proofs.ClassLemmas.{no_classes, classes_more, classes_whole}
 use Rattle.ir_rules.proofs.classes.type_classes.Goals as goal
