@@ -143,6 +143,15 @@ module _ (t : Tables) (s : Scope) where
   abbrev pub edges_of : Block ℕ ℕ ℕ → List Edge
   edges_of b = fold (with_exit b.label) [] (flat_map exits_of b.instructions)
 
+  -- an instruction that ends its block
+  abbrev pub ending : (ℕ → Option ℕ) → Instruction ℕ ℕ ℕ → Option Op
+  ending exit (tree.Return value) = return_of t s.registers value
+  ending exit (tree.Jump target) = jump exit target
+  ending exit (tree.Branch condition on_true on_false) = branch t s.registers exit condition on_true on_false
+  ending exit (tree.Switch of value default cases) = switch t s.registers exit of value default cases
+  ending exit tree.Unreachable = Some op.Unreachable
+  ending exit _ = None
+
 -- over the module too
 module _ (m : Items) (t : Tables) (s : Scope) where
   -- an instruction that is no phi of those that its block begins with

@@ -2,7 +2,7 @@
 ghost use Rattle.std.specs.Prelude.{◌≡◌, ◌≤◌, ◌++◌, ◌^◌, ◌<◌, IfOk, length, map, replicate};
 ghost use Rattle.ir_code.specs.declared.op.Op.TheVariants as op;
 ghost use Rattle.ir_code.specs.Places.{exit_at};
-ghost use Rattle.ir_code.specs.Blocks.{joins_of, resolved, op_of, ops_of};
+ghost use Rattle.ir_code.specs.Blocks.{joins_of, ending, resolved, op_of, ops_of};
 
 use crate::addresses::address;
 use crate::calls::call;
@@ -16,6 +16,49 @@ use ir_tree::whole::Module;
 use pv_base::list::List;
 use pv_base::want::Memory;
 use std::alloc::Global;
+
+/// An instruction that ends its block; `None` where it breaks a rule of modules, and for every other.
+fn ending(
+    alloc: Global,
+    lookups: &Lookups,
+    scope: &Scope,
+    exits: &Exits,
+    instruction: &Instruction,
+) -> Result<Option<Op>, Memory>
+    ensures { IfOk result (λ r. r ≡ ending lookups.now scope.now (exit_at scope.now.labels exits.now.targets exits.now.first) instruction.now) }
+{
+    let registers = &scope.registers;
+    let labels = &scope.labels;
+    match instruction {
+        Instruction::Return { value } => Ok(return_of(lookups, registers, *value)),
+        Instruction::Jump { target } => Ok(jump(exits, labels, *target)),
+        Instruction::Branch {
+            condition,
+            on_true,
+            on_false,
+        } => Ok(branch(
+            lookups, registers, exits, labels, *condition, *on_true, *on_false,
+        )),
+        Instruction::Switch {
+            of,
+            value,
+            default,
+            cases,
+        } => switch(
+            alloc,
+            lookups,
+            registers,
+            exits,
+            labels,
+            *of,
+            *value,
+            *default,
+            cases.as_slice(),
+        ),
+        Instruction::Unreachable => Ok(Some(Op::Unreachable)),
+        _ => Ok(None),
+    }
+}
 
 /// An instruction that is no phi of those that its block begins with; `None` where it breaks a rule of modules.
 #[tactic(auto, unfolding(crate::specs::Blocks::resolved))]
@@ -31,7 +74,6 @@ fn resolved(
     ensures { IfOk result (λ r. r ≡ resolved «module».now lookups.now scope.now (exit_at scope.now.labels exits.now.targets exits.now.first) instruction.now) }
 {
     let registers = &scope.registers;
-    let labels = &scope.labels;
     match instruction {
         Instruction::Binary {
             to,
@@ -104,32 +146,11 @@ fn resolved(
             *callee,
             arguments.as_slice(),
         ),
-        Instruction::Return { value } => Ok(return_of(lookups, registers, *value)),
-        Instruction::Jump { target } => Ok(jump(exits, labels, *target)),
-        Instruction::Branch {
-            condition,
-            on_true,
-            on_false,
-        } => Ok(branch(
-            lookups, registers, exits, labels, *condition, *on_true, *on_false,
-        )),
-        Instruction::Switch {
-            of,
-            value,
-            default,
-            cases,
-        } => switch(
-            alloc,
-            lookups,
-            registers,
-            exits,
-            labels,
-            *of,
-            *value,
-            *default,
-            cases.as_slice(),
-        ),
-        Instruction::Unreachable => Ok(Some(Op::Unreachable)),
+        Instruction::Return { .. }
+        | Instruction::Jump { .. }
+        | Instruction::Branch { .. }
+        | Instruction::Switch { .. }
+        | Instruction::Unreachable => ending(alloc, lookups, scope, exits, instruction),
     }
 }
 
