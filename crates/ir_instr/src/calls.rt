@@ -18,6 +18,7 @@ ghost use Rattle.ir_instr.specs.Scalars.{result_of_type};
 
 use crate::control::result_type;
 use crate::parts::{Scalar, number, register, typed_operand};
+use crate::words::OPCODES;
 use ir_lex::token::{Cause, TokenKind};
 use ir_text::cursor::{Cursor, Lexeme};
 use ir_text::fault::{Fault, ReadEnd};
@@ -326,37 +327,7 @@ pub fn words_to_opcode(cursor: &mut Cursor<'_>) -> Result<(), ReadEnd>
     ensures { Reads (λ x. x) cursor.new result (words_at (stops opcodes false) cursor.old) }
 {
     let opcodes = Stops {
-        words: &[
-            b"add",
-            b"sub",
-            b"mul",
-            b"udiv",
-            b"sdiv",
-            b"urem",
-            b"srem",
-            b"shl",
-            b"lshr",
-            b"ashr",
-            b"and",
-            b"or",
-            b"xor",
-            b"trunc",
-            b"zext",
-            b"sext",
-            b"freeze",
-            b"icmp",
-            b"select",
-            b"phi",
-            b"alloca",
-            b"load",
-            b"store",
-            b"getelementptr",
-            b"call",
-            b"ret",
-            b"br",
-            b"switch",
-            b"unreachable",
-        ],
+        words: OPCODES,
         types: false,
     };
     words(cursor, &opcodes)

@@ -109,45 +109,45 @@ pub fn predicate(word: &[u8]) -> Option<Pred>
     None
 }
 
+/// The words that begin instructions.
+pub const OPCODES: &[&[u8]] = &[
+    b"add",
+    b"sub",
+    b"mul",
+    b"udiv",
+    b"sdiv",
+    b"urem",
+    b"srem",
+    b"shl",
+    b"lshr",
+    b"ashr",
+    b"and",
+    b"or",
+    b"xor",
+    b"trunc",
+    b"zext",
+    b"sext",
+    b"freeze",
+    b"icmp",
+    b"select",
+    b"phi",
+    b"alloca",
+    b"load",
+    b"store",
+    b"getelementptr",
+    b"call",
+    b"ret",
+    b"br",
+    b"switch",
+    b"unreachable",
+];
+
 /// Whether a word begins an instruction.
 #[tactic(auto, using(ir_text::proofs::Among::any_among), unfolding(ir_text::specs::Tokens::among))]
 pub fn is_opcode(text: &[u8]) -> bool
     ensures { result ≡ among spec.opcodes text.now }
 {
-    is_among(
-        &[
-            b"add",
-            b"sub",
-            b"mul",
-            b"udiv",
-            b"sdiv",
-            b"urem",
-            b"srem",
-            b"shl",
-            b"lshr",
-            b"ashr",
-            b"and",
-            b"or",
-            b"xor",
-            b"trunc",
-            b"zext",
-            b"sext",
-            b"freeze",
-            b"icmp",
-            b"select",
-            b"phi",
-            b"alloca",
-            b"load",
-            b"store",
-            b"getelementptr",
-            b"call",
-            b"ret",
-            b"br",
-            b"switch",
-            b"unreachable",
-        ],
-        text,
-    )
+    is_among(OPCODES, text)
 }
 
 /// Whether a word begins an instruction without a result.
