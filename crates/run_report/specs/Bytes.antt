@@ -6,7 +6,7 @@ use Rattle.mem_image.specs.declared.object.Pointer.{Pointer}
 use Rattle.mem_image.specs.declared.object.Pointer.TheVariants.{Null, Obj, Fun}
 use Rattle.mem_image.specs.declared.object.Byte.{Byte}
 use Rattle.mem_image.specs.declared.object.Byte.TheVariants.{Unset, Num, Ptr}
-use Rattle.seq_machine.specs.Words.{are_parts}
+use Rattle.seq_effects.specs.Words.{are_parts}
 
 -- a hexadecimal digit, in lower case
 abbrev pub lower_hex : ℕ → ℕ

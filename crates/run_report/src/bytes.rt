@@ -1,13 +1,12 @@
 //! The bytes of a global in a report.
 ghost use Rattle.std.specs.Prelude.{◌≡◌, ◌<◌, ◌++◌, [], length, drop, OnOk, IfOk};
-ghost use Rattle.seq_machine.specs.Words.{is_part, are_parts};
 ghost use Rattle.run_report.specs.Bytes.{lower_hex, pointer_text, whole_text, byte_text, pointer_at, bytes_after, bytes_text};
 
 use crate::put::{put_number, put_signed};
 use mem_image::object::{Byte, Pointer};
 use pv_base::bytes::Bytes;
 use pv_base::want::Memory;
-use seq_machine::numbers::same_pointer;
+use seq_effects::words::are_parts;
 
 fn lower_hex(n: u8) -> u8
     requires { n < 16 }
@@ -61,31 +60,6 @@ fn put_byte(to: &mut Bytes, byte: Byte) -> Result<(), Memory>
         Byte::Num(n) => to.append(&[lower_hex(n / 16), lower_hex(n % 16)]),
         Byte::Ptr { part, pointer } => put_part(to, part, pointer),
     }
-}
-
-/// Whether the byte is that part of the pointer.
-fn is_part(part: usize, pointer: Pointer, byte: Byte) -> bool
-    ensures { result ≡ is_part part pointer byte }
-{
-    match byte {
-        Byte::Ptr {
-            part: this,
-            pointer: other,
-        } => this as usize == part && same_pointer(other, pointer),
-        _ => false,
-    }
-}
-
-/// Whether the bytes are the parts of the pointer, in order.
-fn are_parts(pointer: Pointer, bytes: &[Byte]) -> bool
-    ensures { result ≡ are_parts 0 pointer bytes.now }
-{
-    for (i, byte) in bytes.iter().enumerate() {
-        if !is_part(i, pointer, *byte) {
-            return false;
-        }
-    }
-    bytes.len() == 8
 }
 
 /// The pointer whose eight bytes stand at the front.

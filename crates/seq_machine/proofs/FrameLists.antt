@@ -7,9 +7,9 @@ use Rattle.ir_code.specs.declared.code.Move.{Move}
 use Rattle.ir_code.specs.declared.code.Code.{Code}
 use Rattle.ir_code.specs.declared.code.FunctionCode.{FunctionCode}
 use Rattle.mem_image.specs.declared.fault.Trap.{Trap}
-use Rattle.seq_machine.specs.declared.state.Value.{Value}
-use Rattle.seq_machine.specs.declared.state.Frame.{Frame}
-use Rattle.seq_machine.specs.Values.{then_, AreOf, Holds, IsOf}
+use Rattle.seq_effects.specs.declared.state.Value.{Value}
+use Rattle.seq_effects.specs.declared.state.Frame.{Frame}
+use Rattle.seq_effects.specs.Values.{then_, AreOf, Holds, IsOf}
 use Rattle.seq_machine.specs.Acts.{move_value, move_values, set_moves, with_top, without_top, top}
 use Rattle.seq_machine.specs.Frames.{FrameOf, FramesOf, Awaits}
 

@@ -12,20 +12,20 @@ use Rattle.mem_image.specs.declared.object.Pointer.TheVariants.{Obj}
 use Rattle.mem_image.specs.declared.fault.Trap.{Trap as TrapWord}
 use Rattle.mem_image.specs.declared.fault.Fault.{Fault}
 use Rattle.mem_image.specs.declared.fault.Fault.TheVariants.{Trap, Check, Memory}
-use Rattle.seq_machine.specs.declared.state.Value.{Value}
-use Rattle.seq_machine.specs.declared.state.Value.TheVariants.{Pointer}
-use Rattle.seq_machine.specs.Script.{Tells, ends, sent}
+use Rattle.seq_effects.specs.declared.state.Value.{Value}
+use Rattle.seq_effects.specs.declared.state.Value.TheVariants.{Pointer}
+use Rattle.seq_effects.specs.Script.{Tells, ends, sent}
 use Rattle.int_num.specs.Integer.{Integer}
-use Rattle.seq_machine.specs.declared.state.Effect.TheVariants as effect
-use Rattle.seq_machine.specs.Effects.{StopsAt}
-use Rattle.seq_machine.specs.declared.state.Frame.{Frame}
-use Rattle.seq_machine.specs.Values.{then_, AreOf, Holds, HoldsIf, IsOf, is_type, is_some_type}
+use Rattle.seq_effects.specs.declared.state.Effect.TheVariants as effect
+use Rattle.seq_effects.specs.Effects.{StopsAt}
+use Rattle.seq_effects.specs.declared.state.Frame.{Frame}
+use Rattle.seq_effects.specs.Values.{then_, AreOf, Holds, HoldsIf, IsOf, is_type, is_some_type}
 use Rattle.ir_code.specs.declared.op.Scalar.TheVariants as scalar
 use Rattle.std.proofs.lemmas.Bool.{ltb-true}
 use Rattle.std.specs.Prelude.{MatchOption, IfSome, IfErr, if◌then◌else◌}
 use Rattle.std.proofs.lemmas.List.{take-append-le, length-take-le, take_all}
 use Rattle.std.proofs.lemmas.Bool.Decides.{nat_tests}
-use Rattle.seq_machine.specs.Flow.{may_stand, Enters, IsResult, receives}
+use Rattle.seq_effects.specs.Flow.{may_stand, Enters, IsResult, receives}
 use Rattle.seq_machine.specs.Acts.{blocks_of, types_of, ops_of, phis_of, function_at, block_at, op_at, top, with_top, bare, next, put, put_if, put_result, result_register, resumed, resumed_top, without_top, entered, keep, on_top, control_of, acted_of, Stands}
 use Rattle.seq_machine.specs.Frames.{CodeOk, FrameOf, HasMore, FramesOf, Awaits, Calls, result_of, HoldsResult}
 use Rattle.seq_machine.proofs.FrameLists.{frames_set, frames_push, are_set, same_some, get_take, set_same}

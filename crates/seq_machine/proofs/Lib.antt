@@ -1,16 +1,6 @@
-pub mod Totals
-pub mod Wraps
-pub mod TextLoop
-pub mod Printing
-pub mod TextLists
-pub mod Addressing
 pub mod Slots
 pub mod Quiet
 pub mod Owns
-pub mod WordLoops
-pub mod Follow
-pub mod Operands
 pub mod FrameLists
 pub mod Kept
-pub mod Arms
 pub mod Steps

@@ -24,21 +24,21 @@ use Rattle.pv_base.specs.Outside.{Text}
 use Rattle.mem_image.specs.Picture.{Picture, IsPicture, find, over, added, fresh, end_frame, name_limit}
 use Rattle.mem_image.specs.Calls.{Call, Reply, Make, EndFrame, Made, Done, Fits, does, made_reply}
 use Rattle.mem_image.proofs.Meanings.{calls_keep}
-use Rattle.seq_machine.specs.declared.state.Effect.{Effect}
-use Rattle.seq_machine.specs.declared.state.Effect.TheVariants as effect
-use Rattle.seq_machine.specs.declared.state.Frame.{Frame}
-use Rattle.seq_machine.specs.declared.state.Value.{Value}
-use Rattle.seq_machine.specs.Script.{Asks, Stops, Gives, tell, with, outcome, Tells, Follows, sent}
-use Rattle.seq_machine.specs.Values.{Sets, then_, is_some_type}
-use Rattle.seq_machine.specs.Flow.{is_result, result_value, returned, may_stand, IsEntry, IsEntryOf}
-use Rattle.seq_machine.specs.Accesses.{alloca, made_own}
+use Rattle.seq_effects.specs.declared.state.Effect.{Effect}
+use Rattle.seq_effects.specs.declared.state.Effect.TheVariants as effect
+use Rattle.seq_effects.specs.declared.state.Frame.{Frame}
+use Rattle.seq_effects.specs.declared.state.Value.{Value}
+use Rattle.seq_effects.specs.Script.{Asks, Stops, Gives, tell, with, outcome, Tells, Follows, sent}
+use Rattle.seq_effects.specs.Values.{Sets, then_, is_some_type}
+use Rattle.seq_effects.specs.Flow.{is_result, result_value, returned, may_stand, IsEntry, IsEntryOf}
+use Rattle.seq_effects.specs.Accesses.{alloca, made_own}
 use Rattle.seq_machine.specs.Acts.{Control, Acted, acted, acted_of, keep, top, with_top, without_top, next, put, put_if, put_result, resumed, resumed_top, bare_top, back, taken, arrived, move_values, entered, on_top, going_on, ending, output_limit, frame_limit, result_register, op_at, exit_number}
 use Rattle.seq_machine.specs.Meaning.{Here, meaning}
-use Rattle.seq_machine.specs.Effects.{StopsAt}
+use Rattle.seq_effects.specs.Effects.{StopsAt}
 use Rattle.seq_machine.specs.Owned.{owned, IsSlot, OwnOf}
-use Rattle.seq_machine.specs.Step.{EffectFor, IsEdge}
+use Rattle.seq_effects.specs.Effects.{EffectFor, IsEdge}
 use Rattle.seq_machine.proofs.FrameLists.{set_same}
-use Rattle.seq_machine.proofs.Follow.{follows_outcome}
+use Rattle.seq_effects.proofs.Follow.{follows_outcome}
 use Rattle.seq_machine.proofs.Slots.{Grows, slots_grow, slots_push, slots_end, once_front, once_push, slot_added, added_grows}
 use Rattle.seq_machine.proofs.Quiet.{IsPlain, plain_meaning, plain_keeps}
 

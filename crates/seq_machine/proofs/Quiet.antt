@@ -21,18 +21,18 @@ use Rattle.mem_image.specs.Calls.{Reply, does}
 use Rattle.mem_image.proofs.Meanings.{calls_keep}
 use Rattle.seq_calls.specs.declared.show.Arg.{Arg}
 use Rattle.seq_calls.specs.Format.{formatted, text_args}
-use Rattle.seq_machine.specs.declared.state.Effect.{Effect}
-use Rattle.seq_machine.specs.declared.state.Frame.{Frame}
-use Rattle.seq_machine.specs.declared.state.Value.{Value}
-use Rattle.seq_machine.specs.declared.state.Value.TheVariants.{Int, Pointer}
-use Rattle.seq_machine.specs.Script.{Script, Gives, Stops, Sizes, Asks, tell, with, chain, outcome}
-use Rattle.seq_machine.specs.Values.{operand, operands, number, pointer, is_of, accepts}
-use Rattle.seq_machine.specs.Words.{word_length, stored, stored_in, value_bytes, pointer_bytes}
-use Rattle.seq_machine.specs.Accesses.{load, load_from, store, move, address, distance}
-use Rattle.seq_machine.specs.Externals.{called_external, request, malloc, calloc, free, freed, transfer, memset, read_byte, text, text_at, text_limit, puts, printf, formatting, texts, text_of_value, after, capped, args_of, printed}
+use Rattle.seq_effects.specs.declared.state.Effect.{Effect}
+use Rattle.seq_effects.specs.declared.state.Frame.{Frame}
+use Rattle.seq_effects.specs.declared.state.Value.{Value}
+use Rattle.seq_effects.specs.declared.state.Value.TheVariants.{Int, Pointer}
+use Rattle.seq_effects.specs.Script.{Script, Gives, Stops, Sizes, Asks, tell, with, chain, outcome}
+use Rattle.seq_effects.specs.Values.{operand, operands, number, pointer, is_of, accepts}
+use Rattle.seq_effects.specs.Words.{word_length, stored, stored_in, value_bytes, pointer_bytes}
+use Rattle.seq_effects.specs.Accesses.{load, load_from, store, move, address, distance}
+use Rattle.seq_externals.specs.Externals.{called_external, request, malloc, calloc, free, freed, transfer, memset, read_byte, text, text_at, text_limit, puts, printf, formatting, texts, text_of_value, after, capped, args_of, printed}
 use Rattle.seq_machine.specs.Meaning.{Here, meaning}
 use Rattle.seq_machine.proofs.Slots.{Grows, IsQuiet, quiet_call, quiet_grows}
-use Rattle.seq_machine.proofs.WordLoops.{parts}
+use Rattle.seq_effects.proofs.WordLoops.{parts}
 
 -- all calls of the tree are quiet
 abbrev pub Plain : {A : Type 0} → Script A → Type 0

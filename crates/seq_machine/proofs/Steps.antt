@@ -17,21 +17,22 @@ use Rattle.mem_image.specs.declared.fault.Fault.TheVariants.{Trap, Check, Memory
 use Rattle.mem_image.specs.Picture.{Picture, IsPicture}
 use Rattle.mem_image.specs.Calls.{Call, Reply, does, Fits, ImageAnswers}
 use Rattle.mem_image.specs.declared.fault.CheckFault.{CheckFault}
-use Rattle.seq_machine.specs.declared.state.Frame.{Frame}
+use Rattle.seq_effects.specs.declared.state.Frame.{Frame}
 use Rattle.seq_machine.specs.declared.state.State.{State}
-use Rattle.seq_machine.specs.declared.state.Effect.{Effect}
-use Rattle.seq_machine.specs.declared.state.Effect.TheVariants as effect
-use Rattle.seq_machine.specs.Script.{Script, Stops, Follows, Tells, tell, chain, sent}
-use Rattle.seq_machine.specs.Values.{Sets}
+use Rattle.seq_effects.specs.declared.state.Effect.{Effect}
+use Rattle.seq_effects.specs.declared.state.Effect.TheVariants as effect
+use Rattle.seq_effects.specs.Script.{Script, Stops, Follows, Tells, tell, chain, sent}
+use Rattle.seq_effects.specs.Values.{Sets}
 use Rattle.seq_machine.specs.Acts.{Control, Acted, acted, acted_of, top, function_at, op_at, block_at}
-use Rattle.seq_machine.specs.Effects.{IsStop}
+use Rattle.seq_effects.specs.Effects.{IsStop}
 use Rattle.seq_machine.specs.Frames.{HasMore, EffectOf, FramesOf}
 use Rattle.seq_machine.specs.Owned.{OwnOf}
 use Rattle.seq_machine.specs.Meaning.{Here, meaning, is_inner}
-use Rattle.seq_machine.specs.Step.{EffectFor, here, script_in, site_at, site_of, script, has_next, finish, step, stands, shown, settled, counted, StepsTo, StateOf, control, steps_from}
+use Rattle.seq_effects.specs.Effects.{EffectFor}
+use Rattle.seq_machine.specs.Step.{here, script_in, site_at, site_of, script, has_next, finish, step, stands, shown, settled, counted, StepsTo, StateOf, control, steps_from}
 use Rattle.seq_machine.specs.declared.state.Step.TheVariants.{Next, Ended, Failed, Trap as Trapped}
 use Rattle.seq_machine.specs.declared.state.End.TheVariants.{Ended as RunEnded, Trapped as RunTrapped}
-use Rattle.seq_machine.proofs.Follow.{follows_chain, follows_cut, follows_outcome, no_check}
+use Rattle.seq_effects.proofs.Follow.{follows_chain, follows_cut, follows_outcome, no_check}
 
 sets_of : (code : Code) (g : FunctionCode) (f : Frame) (e : Effect) → function_at code f ≡ Some g → HasMore code f → Sets g.registers e → EffectOf code f e
 sets_of code g f effect.Next is more h = more

@@ -14,13 +14,13 @@ use Rattle.ir_code.specs.declared.code.Code.{Code}
 use Rattle.mem_image.specs.declared.object.Pointer.TheVariants.{Obj}
 use Rattle.mem_image.specs.declared.fault.Trap.{Trap}
 use Rattle.mem_image.specs.declared.fault.Trap.TheVariants.{Unreachable, Depth, Output}
-use Rattle.seq_machine.specs.declared.state.Value.{Value}
-use Rattle.seq_machine.specs.declared.state.Value.TheVariants.{Int, Pointer}
-use Rattle.seq_machine.specs.declared.state.Frame.{Frame}
-use Rattle.seq_machine.specs.declared.state.Effect.{Effect}
-use Rattle.seq_machine.specs.declared.state.Effect.TheVariants.{Next, Give, Keep, Edge, Enter, Back, Exit, Print, Take}
-use Rattle.seq_machine.specs.Values.{then_, where_, operand, may_hold, Holds, AreOf}
-use Rattle.seq_machine.specs.Flow.{may_stand}
+use Rattle.seq_effects.specs.declared.state.Value.{Value}
+use Rattle.seq_effects.specs.declared.state.Value.TheVariants.{Int, Pointer}
+use Rattle.seq_effects.specs.declared.state.Frame.{Frame}
+use Rattle.seq_effects.specs.declared.state.Effect.{Effect}
+use Rattle.seq_effects.specs.declared.state.Effect.TheVariants.{Next, Give, Keep, Edge, Enter, Back, Exit, Print, Take}
+use Rattle.seq_effects.specs.Values.{then_, where_, operand, may_hold, Holds, AreOf}
+use Rattle.seq_effects.specs.Flow.{may_stand}
 
 -- ---- where a frame stands
 

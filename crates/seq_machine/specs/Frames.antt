@@ -7,13 +7,13 @@ use Rattle.ir_code.specs.declared.code.BlockCode.{BlockCode}
 use Rattle.ir_code.specs.declared.code.FunctionCode.{FunctionCode}
 use Rattle.ir_code.specs.declared.code.Code.{Code}
 use Rattle.mem_image.specs.declared.object.Pointer.TheVariants.{Obj}
-use Rattle.seq_machine.specs.declared.state.Value.{Value}
-use Rattle.seq_machine.specs.declared.state.Value.TheVariants.{Pointer}
-use Rattle.seq_machine.specs.declared.state.Frame.{Frame}
-use Rattle.seq_machine.specs.declared.state.Effect.{Effect}
-use Rattle.seq_machine.specs.declared.state.Effect.TheVariants.{Next, Give, Keep, Edge, Enter, Back, Exit, Print, Take}
-use Rattle.seq_machine.specs.Values.{AreOf, Holds, HoldsIf}
-use Rattle.seq_machine.specs.Flow.{receives, has_type, Enters, IsResult}
+use Rattle.seq_effects.specs.declared.state.Value.{Value}
+use Rattle.seq_effects.specs.declared.state.Value.TheVariants.{Pointer}
+use Rattle.seq_effects.specs.declared.state.Frame.{Frame}
+use Rattle.seq_effects.specs.declared.state.Effect.{Effect}
+use Rattle.seq_effects.specs.declared.state.Effect.TheVariants.{Next, Give, Keep, Edge, Enter, Back, Exit, Print, Take}
+use Rattle.seq_effects.specs.Values.{AreOf, Holds, HoldsIf}
+use Rattle.seq_effects.specs.Flow.{receives, has_type, Enters, IsResult}
 use Rattle.seq_machine.specs.Acts.{blocks_of, types_of, ops_of, phis_of, function_at, block_at, op_at}
 
 -- what the code must have: the numbers of instructions are below 2^32

@@ -1,13 +1,5 @@
-pub mod Script
-pub mod Values
-pub mod Numbers
-pub mod Words
-pub mod Accesses
-pub mod Flow
 pub mod Acts
 pub mod Frames
-pub mod Externals
 pub mod Meaning
 pub mod Step
-pub mod Effects
 pub mod Owned

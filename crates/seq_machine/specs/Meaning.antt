@@ -1,20 +1,22 @@
 -- The meaning of each instruction, as one tree over the frame that it is in (LLVM Language Reference, "Instruction Reference").
-use Rattle.std.specs.Prelude.{ℕ, Bool, true, false}
+use Rattle.std.specs.Prelude.{ℕ, Bool, true, false, List, Result, Err}
 use Rattle.pv_base.specs.Outside.{Text}
 use Rattle.pv_base.specs.declared.place.Site.{Site}
 use Rattle.ir_code.specs.declared.op.Op.{Op}
 use Rattle.ir_code.specs.declared.op.Op.TheVariants as op
 use Rattle.ir_code.specs.declared.code.FunctionCode.{FunctionCode}
 use Rattle.ir_code.specs.declared.code.Code.{Code}
+use Rattle.ir_code.specs.declared.op.Scalar.{Scalar}
+use Rattle.mem_image.specs.declared.fault.Trap.{Trap as TrapWord}
 use Rattle.mem_image.specs.declared.fault.Trap.TheVariants.{Unreachable}
-use Rattle.seq_machine.specs.declared.state.Frame.{Frame}
-use Rattle.seq_machine.specs.declared.state.Effect.{Effect}
-use Rattle.seq_machine.specs.declared.state.Effect.TheVariants.{Edge}
-use Rattle.seq_machine.specs.Script.{Script, Gives, Stops, tell}
-use Rattle.seq_machine.specs.Numbers.{calculated, converted, frozen, compared, selected}
-use Rattle.seq_machine.specs.Accesses.{load, store, alloca, address}
-use Rattle.seq_machine.specs.Flow.{branched, called, called_through, returned, switched}
-use Rattle.seq_machine.specs.Externals.{called_external}
+use Rattle.seq_effects.specs.declared.state.Frame.{Frame}
+use Rattle.seq_effects.specs.declared.state.Effect.{Effect}
+use Rattle.seq_effects.specs.declared.state.Effect.TheVariants.{Edge}
+use Rattle.seq_effects.specs.Script.{Script, Gives, Stops, tell}
+use Rattle.seq_effects.specs.Numbers.{calculated, converted, frozen, compared, selected}
+use Rattle.seq_effects.specs.Accesses.{load, store, alloca, address}
+use Rattle.seq_effects.specs.Flow.{branched, called, called_through, returned, switched}
+use Rattle.seq_externals.specs.Externals.{called_external}
 
 -- what the meaning of an instruction is over: the code, the function and the frame, the site, the input and the place in it
 pub record Here : Type 0 where
@@ -34,6 +36,15 @@ is_inner (op.Switch v d cases) = false
 is_inner op.Unreachable = false
 is_inner op.Stuck = false
 is_inner _ = true
+
+-- what needs the values of its operands alone
+abbrev pub computed : List Scalar → Frame → Op → Result Effect TrapWord
+computed types f (op.Binary to o flags left right) = calculated types f to o flags left right
+computed types f (op.Cast to o flags value width) = converted types f to o flags value width
+computed types f (op.Freeze to value) = frozen types f to value
+computed types f (op.Compare to pred left right) = compared types f to pred left right
+computed types f (op.Select to c a b) = selected types f to c a b
+computed types f _ = Err Unreachable
 
 unfoldable pub meaning : Here → Op → Script Effect
 meaning h (op.Binary to o flags left right) = tell (calculated h.function.registers h.frame to o flags left right)

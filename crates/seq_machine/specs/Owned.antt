@@ -3,7 +3,7 @@ use Rattle.std.specs.Prelude.{ℕ, ◌≡◌, List, [], ◌∷◌, ◌++◌, Opt
 use Rattle.mem_image.specs.declared.object.Object.{Object}
 use Rattle.mem_image.specs.declared.object.Kind.TheVariants.{Stack}
 use Rattle.mem_image.specs.Picture.{Picture, find}
-use Rattle.seq_machine.specs.declared.state.Frame.{Frame}
+use Rattle.seq_effects.specs.declared.state.Frame.{Frame}
 
 -- the names that the frames own, from the first frame up
 abbrev pub owned : List Frame → List ℕ

@@ -5,7 +5,6 @@ use Rattle.pv_base.specs.Outside.{Text}
 use Rattle.pv_base.specs.declared.place.Site.{Site}
 use Rattle.pv_base.specs.declared.want.Memory.{Memory as NoMemory}
 use Rattle.ir_code.specs.declared.op.Op.{Op}
-use Rattle.ir_code.specs.declared.op.Op.TheVariants as op
 use Rattle.ir_code.specs.declared.code.BlockCode.{BlockCode}
 use Rattle.ir_code.specs.declared.code.FunctionCode.{FunctionCode}
 use Rattle.ir_code.specs.declared.code.Code.{Code}
@@ -14,17 +13,13 @@ use Rattle.mem_image.specs.declared.fault.Trap.TheVariants.{Unreachable}
 use Rattle.mem_image.specs.declared.fault.Fault.{Fault}
 use Rattle.mem_image.specs.declared.fault.Fault.TheVariants.{Trap, Check, Memory}
 use Rattle.mem_image.specs.Picture.{Picture, IsPicture}
-use Rattle.seq_machine.specs.declared.state.Frame.{Frame}
+use Rattle.seq_effects.specs.declared.state.Frame.{Frame}
 use Rattle.seq_machine.specs.declared.state.State.{State}
-use Rattle.seq_machine.specs.declared.state.Effect.{Effect}
-use Rattle.seq_machine.specs.declared.state.Effect.TheVariants as effect
 use Rattle.seq_machine.specs.declared.state.Step.{Step}
 use Rattle.seq_machine.specs.declared.state.Step.TheVariants.{Next, Ended, Trap as Trapped, Failed}
 use Rattle.seq_machine.specs.declared.state.End.{End}
 use Rattle.seq_machine.specs.declared.state.End.TheVariants.{Ended as RunEnded, Trapped as RunTrapped, Spent}
-use Rattle.seq_machine.specs.Script.{Script, Stops, tell, chain, outcome}
-use Rattle.seq_machine.specs.Values.{Sets, SetsOwn}
-use Rattle.seq_machine.specs.Flow.{IsEntry, IsEntryOf, IsReturn}
+use Rattle.seq_effects.specs.Script.{Script, Stops, tell, chain, outcome}
 use Rattle.seq_machine.specs.Acts.{Control, Acted, acted, control_of, top, function_at, block_at, op_at, ops_of}
 use Rattle.seq_machine.specs.Frames.{FramesOf}
 use Rattle.seq_machine.specs.Owned.{OwnOf}
@@ -118,29 +113,6 @@ counted (Ok n) steps = steps + 1
 counted (Err (Trap t)) steps = steps + 1
 counted (Err (Check f)) steps = steps
 counted (Err Memory) steps = steps
-
--- an effect of an instruction without calls
-abbrev pub lifted : Result Effect TrapWord → Result Effect Fault
-lifted (Ok e) = Ok e
-lifted (Err t) = Err (Trap t)
-
--- ---- what an instruction's effect may be
-
-abbrev pub IsEdge : Effect → Type 0
-IsEdge (effect.Edge e) = Unit {0}
-IsEdge _ = ⊥
-
-abbrev pub EffectFor : Code → FunctionCode → Op → Effect → Type 0
-EffectFor code g (op.Call to k arguments) e = IsEntry code g.registers to k e
-EffectFor code g (op.CallPointer to p result parameters arguments) e = IsEntryOf code g.registers to result parameters e
-EffectFor code g (op.Return value) e = IsReturn g.result e
-EffectFor code g (op.Jump edge) e = IsEdge e
-EffectFor code g (op.Branch c a b) e = IsEdge e
-EffectFor code g (op.Switch v d cases) e = IsEdge e
-EffectFor code g (op.Alloca to size) e = SetsOwn g.registers e
-EffectFor code g op.Unreachable e = ⊥
-EffectFor code g op.Stuck e = ⊥
-EffectFor code g _ e = Sets g.registers e
 
 -- ---- runs
 

@@ -2,16 +2,13 @@
 ghost use Rattle.std.specs.Prelude.{◌≡◌, ◌+◌, ◌-◌, ◌<◌, ◌≤◌, ◌^◌, ◌++◌, ◌∷◌, nat_lt, if◌then◌else◌, ℕ, true, length, slice_get, slice_set, IfOk, IfErr, IfSome, OnErr, OnOk, Ok, Err, Some, None, []};
 ghost use Rattle.mem_image.specs.declared.fault.Fault.TheVariants.{Memory as NoMemory};
 ghost use Rattle.mem_image.specs.declared.fault.Trap.TheVariants.{Depth as DepthTrap, Output as OutputTrap};
-ghost use Rattle.seq_machine.specs.Script.{Tells, sent, ends};
-ghost use Rattle.seq_machine.specs.Values.{AreOf, Holds, then_};
+ghost use Rattle.seq_effects.specs.Script.{Tells, sent, ends};
+ghost use Rattle.seq_effects.specs.Values.{AreOf, Holds, then_};
 ghost use Rattle.seq_machine.specs.Acts.{top, with_top, next, put, keep, put_if, move_value, move_values, set_moves, arrived, taken, types_of, function_at, MovesHold, Stands, blocks_of, phis_of, entered, exit_number, result_register, op_at, back, bare_top, resumed_top, without_top, put_result, acted, control_of, acted_of, frame_limit, output_limit};
 ghost use Rattle.seq_machine.specs.Frames.{CodeOk, FrameOf, FramesOf, HasMore, HoldsResult, EffectOf, result_of};
-ghost use Rattle.seq_machine.specs.Flow.{IsResult};
-ghost use Rattle.seq_machine.specs.Effects.{StopsAt};
+ghost use Rattle.seq_effects.specs.Flow.{IsResult};
+ghost use Rattle.seq_effects.specs.Effects.{StopsAt};
 
-use crate::flow::may_stand;
-use crate::state::{Effect, Frame, Value};
-use crate::values::may_hold;
 use int_num::int::Int;
 use ir_code::code::{Code, Edge, FunctionCode, Move};
 use ir_code::op::{Op, Scalar};
@@ -19,6 +16,9 @@ use mem_image::fault::{Fault, Trap};
 use mem_image::object::Pointer;
 use pv_base::bytes::Bytes;
 use pv_base::list::List;
+use seq_effects::flow::may_stand;
+use seq_effects::state::{Effect, Frame, Value};
+use seq_effects::values::may_hold;
 use std::alloc::Global;
 
 /// A frame without registers, which stands where the top one is taken out.

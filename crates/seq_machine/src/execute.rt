@@ -1,19 +1,12 @@
 //! One instruction, over any memory.
 ghost use Rattle.std.specs.Prelude.{◌≡◌, ◌+◌, ◌<◌, IfOk, OnErr};
-ghost use Rattle.seq_machine.specs.Script.{Follows};
-ghost use Rattle.seq_machine.specs.Values.{Sets};
-ghost use Rattle.seq_machine.specs.Externals.{called_external};
-ghost use Rattle.seq_machine.specs.Meaning.{meaning};
-ghost use Rattle.seq_machine.specs.Step.{EffectFor, lifted};
-ghost use Rattle.seq_machine.specs.Effects.{MayStop};
+ghost use Rattle.seq_effects.specs.Script.{Follows};
+ghost use Rattle.seq_effects.specs.Values.{Sets};
+ghost use Rattle.seq_externals.specs.Externals.{called_external};
+ghost use Rattle.seq_machine.specs.Meaning.{meaning, computed};
+ghost use Rattle.seq_effects.specs.Effects.{EffectFor, lifted};
+ghost use Rattle.seq_effects.specs.Effects.{MayStop};
 
-use crate::accesses::{alloca, load, store};
-use crate::addresses::address;
-use crate::externals::{calloc, exit, extreme, free, getchar, malloc, memset, putchar, transfer};
-use crate::flow::{branch, call, call_pointer, end, switch};
-use crate::numbers::{calculate, compare_operands, convert, freeze, select};
-use crate::state::{Effect, Frame};
-use crate::texts::{printf, puts};
 use int_num::ops::Pred;
 use ir_code::code::{Code, FunctionCode};
 use ir_code::op::{Op, Operand, Scalar};
@@ -22,6 +15,13 @@ use mem_image::memory::Mem;
 use pv_base::external::External;
 use pv_base::list::List;
 use pv_base::place::Site;
+use seq_effects::accesses::{alloca, load, store};
+use seq_effects::addresses::address;
+use seq_effects::flow::{branch, call, call_pointer, end, switch};
+use seq_effects::numbers::{calculate, compare_operands, convert, freeze, select};
+use seq_effects::state::{Effect, Frame};
+use seq_externals::externals::{calloc, exit, extreme, free, getchar, malloc, memset, putchar, transfer};
+use seq_externals::texts::{printf, puts};
 
 /// A trap as a fault.
 fn lifted(of: Result<Effect, Trap>) -> Result<Effect, Fault>
@@ -34,7 +34,7 @@ fn lifted(of: Result<Effect, Trap>) -> Result<Effect, Fault>
 }
 
 /// A call of a function outside the module.
-#[tactic(auto, using(crate::proofs::Arms::arms), unfolding(crate::specs::Externals::called_external))]
+#[tactic(auto, using(seq_effects::proofs::Arms::arms), unfolding(seq_externals::specs::Externals::called_external))]
 fn call_external<M: Mem>(
     types: &List<Scalar>,
     frame: &Frame,
@@ -75,8 +75,45 @@ fn call_external<M: Mem>(
     }
 }
 
+/// An instruction that needs the values of its operands alone.
+fn compute(types: &List<Scalar>, frame: &Frame, op: &Op) -> Result<Effect, Trap>
+    ensures effect { result ≡ computed types.now frame.now op.now }
+    ensures sets { IfOk result (Sets types.now) }
+{
+    match op {
+        Op::Binary {
+            to,
+            op,
+            flags,
+            left,
+            right,
+        } => calculate(types, frame, *to, *op, *flags, *left, *right),
+        Op::Cast {
+            to,
+            op,
+            flags,
+            value,
+            width,
+        } => convert(types, frame, *to, *op, *flags, *value, *width),
+        Op::Freeze { to, value } => freeze(types, frame, *to, *value),
+        Op::Compare {
+            to,
+            pred,
+            left,
+            right,
+        } => compare_operands(types, frame, *to, *pred, *left, *right),
+        Op::Select {
+            to,
+            condition,
+            on_true,
+            on_false,
+        } => select(types, frame, *to, *condition, *on_true, *on_false),
+        _ => Err(Trap::Unreachable),
+    }
+}
+
 /// One instruction of a frame.
-#[tactic(auto, using(crate::proofs::Arms::arms), unfolding(crate::specs::Meaning::meaning))]
+#[tactic(auto, using(seq_effects::proofs::Arms::arms), unfolding(crate::specs::Meaning::meaning))]
 pub fn execute<M: Mem>(
     code: &Code,
     function: &FunctionCode,
@@ -96,34 +133,12 @@ pub fn execute<M: Mem>(
 {
     let types = &function.registers;
     match op {
-        Op::Binary {
-            to,
-            op,
-            flags,
-            left,
-            right,
-        } => lifted(calculate(types, frame, *to, *op, *flags, *left, *right)),
-        Op::Cast {
-            to,
-            op,
-            flags,
-            value,
-            width,
-        } => lifted(convert(types, frame, *to, *op, *flags, *value, *width)),
-        Op::Freeze { to, value } => lifted(freeze(types, frame, *to, *value)),
-        Op::Compare {
-            to,
-            pred,
-            left,
-            right,
-        } => lifted(compare_operands(types, frame, *to, *pred, *left, *right)),
-        Op::Select {
-            to,
-            condition,
-            on_true,
-            on_false,
-        } => lifted(select(types, frame, *to, *condition, *on_true, *on_false)),
-        Op::Phi => Err(Fault::Trap(Trap::Unreachable)),
+        Op::Binary { .. }
+        | Op::Cast { .. }
+        | Op::Freeze { .. }
+        | Op::Compare { .. }
+        | Op::Select { .. } => lifted(compute(types, frame, op)),
+        Op::Phi | Op::Unreachable | Op::Stuck => Err(Fault::Trap(Trap::Unreachable)),
         Op::Alloca { to, size } => alloca(types, memory, at, *to, *size),
         Op::Load { to, of, pointer } => load(types, frame, memory, at, *to, *of, *pointer),
         Op::Store { of, value, pointer } => store(frame, memory, at, *of, *value, *pointer),
@@ -166,7 +181,5 @@ pub fn execute<M: Mem>(
             default,
             cases,
         } => lifted(switch(frame, *value, *default, cases)),
-        Op::Unreachable => Err(Fault::Trap(Trap::Unreachable)),
-        Op::Stuck => Err(Fault::Trap(Trap::Unreachable)),
     }
 }

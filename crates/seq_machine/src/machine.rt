@@ -2,16 +2,16 @@
 ghost use Rattle.std.specs.Prelude.{◌≡◌, ◌+◌, ◌<◌, ◌^◌, nat_lt, not, ◌||◌, length, slice_get, IfErr, OnErr, Some, true};
 ghost use Rattle.mem_image.specs.Picture.{IsPicture};
 ghost use Rattle.seq_machine.specs.Owned.{OwnOf};
-ghost use Rattle.seq_machine.specs.Script.{Follows, chain, tell, sent};
+ghost use Rattle.seq_effects.specs.Script.{Follows, chain, tell, sent};
 ghost use Rattle.seq_machine.specs.Acts.{top, acted, acted_of, control_of, function_at, block_at, op_at, ops_of};
-ghost use Rattle.seq_machine.specs.Effects.{IsStop};
+ghost use Rattle.seq_effects.specs.Effects.{IsStop};
 ghost use Rattle.seq_machine.specs.Frames.{CodeOk, FramesOf, FrameOf, HasMore};
 ghost use Rattle.seq_machine.specs.Meaning.{meaning, is_inner};
 ghost use Rattle.seq_machine.specs.Step.{settled, counted, here, script, site_of, site_at, has_next, StateOf, StepsTo, control, stands, shown};
 
 use crate::acts::act;
 use crate::execute::execute;
-use crate::state::{Frame, State, Step};
+use crate::state::{State, Step};
 use int_num::int::Int;
 use ir_code::code::{BlockCode, Code, FunctionCode};
 use ir_code::op::Op;
@@ -21,6 +21,7 @@ use pv_base::bytes::Bytes;
 use pv_base::list::List;
 use pv_base::place::Site;
 use pv_base::want::Memory;
+use seq_effects::state::Frame;
 
 /// The answer of a step, which is counted.
 fn settle(done: Result<Option<Int>, Fault>, site: Site, steps: &mut u64) -> Result<Step, Memory>

@@ -8,11 +8,11 @@ use Rattle.ir_code.specs.declared.op.Scalar.TheVariants as scalar
 use Rattle.ir_code.specs.declared.code.FunctionCode.{FunctionCode}
 use Rattle.ir_code.specs.declared.code.Code.{Code}
 use Rattle.mem_image.specs.declared.object.Pointer.TheVariants.{Null}
-use Rattle.seq_machine.specs.declared.state.Value.{Value}
-use Rattle.seq_machine.specs.declared.state.Value.TheVariants.{Int, Pointer}
-use Rattle.seq_machine.specs.declared.state.Frame.{Frame}
-use Rattle.seq_machine.specs.Values.{IsOf, AreOf}
-use Rattle.seq_machine.specs.Flow.{entry_registers}
+use Rattle.seq_effects.specs.declared.state.Value.{Value}
+use Rattle.seq_effects.specs.declared.state.Value.TheVariants.{Int, Pointer}
+use Rattle.seq_effects.specs.declared.state.Frame.{Frame}
+use Rattle.seq_effects.specs.Values.{IsOf, AreOf}
+use Rattle.seq_effects.specs.Flow.{entry_registers}
 use Rattle.seq_machine.specs.Acts.{entered, function_at, block_at, blocks_of}
 use Rattle.seq_machine.specs.Frames.{FrameOf, FramesOf}
 use Rattle.seq_machine.specs.Owned.{OwnOf}

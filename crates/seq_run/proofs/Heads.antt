@@ -9,7 +9,7 @@ use Rattle.ir_code.specs.declared.code.FunctionCode.{FunctionCode}
 use Rattle.ir_code.specs.declared.code.Code.{Code}
 use Rattle.mem_image.specs.declared.fault.Trap.{Trap as TrapWord}
 use Rattle.mem_image.specs.Picture.{Picture}
-use Rattle.seq_machine.specs.declared.state.Frame.{Frame}
+use Rattle.seq_effects.specs.declared.state.Frame.{Frame}
 use Rattle.seq_machine.specs.declared.state.State.{State}
 use Rattle.seq_machine.specs.declared.state.Header.{Header}
 use Rattle.seq_machine.specs.declared.state.Step.{Step}
@@ -17,7 +17,7 @@ use Rattle.seq_machine.specs.declared.state.Step.TheVariants as step
 use Rattle.seq_machine.specs.declared.state.Stop.TheVariants.{AtHeader, Ended, Trapped, Spent}
 use Rattle.seq_machine.specs.Acts.{top}
 use Rattle.seq_machine.specs.Step.{step as one_step, finish, script, control}
-use Rattle.seq_machine.specs.Script.{outcome}
+use Rattle.seq_effects.specs.Script.{outcome}
 use Rattle.seq_run.specs.Headers.{is_header, header_of, to_header}
 
 -- ---- where the top frame stands

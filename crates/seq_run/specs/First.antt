@@ -9,11 +9,11 @@ use Rattle.ir_code.specs.Coding.{code_of}
 use Rattle.ir_bytes.specs.Initial.{first_picture}
 use Rattle.mem_image.specs.declared.object.Pointer.TheVariants.{Null}
 use Rattle.mem_image.specs.Picture.{Picture}
-use Rattle.seq_machine.specs.declared.state.Value.{Value}
-use Rattle.seq_machine.specs.declared.state.Value.TheVariants.{Int, Pointer}
-use Rattle.seq_machine.specs.declared.state.Frame.{Frame}
+use Rattle.seq_effects.specs.declared.state.Value.{Value}
+use Rattle.seq_effects.specs.declared.state.Value.TheVariants.{Int, Pointer}
+use Rattle.seq_effects.specs.declared.state.Frame.{Frame}
 use Rattle.seq_machine.specs.declared.state.State.{State}
-use Rattle.seq_machine.specs.Flow.{entry_registers}
+use Rattle.seq_effects.specs.Flow.{entry_registers}
 use Rattle.seq_machine.specs.Acts.{entered}
 
 -- `main` is given nothing, or 0 and null

@@ -3,7 +3,7 @@ use Rattle.std.specs.Prelude.{ℕ, zero, suc, ◌==◌, ◌&&◌, List, position
 use Rattle.pv_base.specs.Outside.{Text}
 use Rattle.ir_code.specs.declared.code.Code.{Code}
 use Rattle.mem_image.specs.Picture.{Picture}
-use Rattle.seq_machine.specs.declared.state.Frame.{Frame}
+use Rattle.seq_effects.specs.declared.state.Frame.{Frame}
 use Rattle.seq_machine.specs.declared.state.State.{State}
 use Rattle.seq_machine.specs.declared.state.Header.{Header}
 use Rattle.seq_machine.specs.declared.state.Step.{Step}

@@ -11,7 +11,8 @@ use mem_image::image::Image;
 use pv_base::list::List;
 use pv_base::want::Memory;
 use seq_machine::machine::step;
-use seq_machine::state::{Frame, Header, State, Step, Stop};
+use seq_effects::state::Frame;
+use seq_machine::state::{Header, State, Step, Stop};
 
 /// There are so many numbers.
 const NUMBERS: usize = 4294967296;

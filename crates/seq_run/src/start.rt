@@ -2,7 +2,7 @@
 ghost use Rattle.std.specs.Prelude.{◌≡◌, ◌<◌, ◌≤◌, ◌^◌, length, slice_get, Some, IfOk, OnOk};
 ghost use Rattle.ir_code.specs.Coding.{code_of};
 ghost use Rattle.ir_bytes.specs.Initial.{first_picture};
-ghost use Rattle.seq_machine.specs.Flow.{entry_registers};
+ghost use Rattle.seq_effects.specs.Flow.{entry_registers};
 ghost use Rattle.seq_machine.specs.Acts.{entered};
 ghost use Rattle.seq_machine.specs.Step.{StateOf};
 ghost use Rattle.seq_run.specs.First.{main_arguments, main_registers, first_frames, first_state};
@@ -18,7 +18,8 @@ use mem_image::object::Pointer;
 use pv_base::bytes::Bytes;
 use pv_base::list::List;
 use pv_base::want::Memory;
-use seq_machine::state::{Frame, State, Value};
+use seq_effects::state::{Frame, Value};
+use seq_machine::state::State;
 use std::alloc::Global;
 
 /// There are so many names.

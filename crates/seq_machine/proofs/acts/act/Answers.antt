@@ -1,6 +1,6 @@
 use Rattle.std.proofs.Common.{slice_get, Ok}
 use Rattle.seq_machine.specs.Acts.{types_of, function_at, taken, with_top}
-use Rattle.seq_machine.specs.Values.{then_}
+use Rattle.seq_effects.specs.Values.{then_}
 use Rattle.seq_machine.proofs.Kept.{top_some, if_there, kept_next, kept_put, kept_put_if, kept_keep, kept_edge, kept_enter, edge_acted, edge_stops}
 use Rattle.seq_machine.proofs.acts.act.Goals as goal
 

@@ -1,7 +1,7 @@
 use Rattle.std.proofs.Common.{◌≡◌, ℕ, drop, length, slice_get, Some}
 use Rattle.ir_code.specs.declared.code.Move.{Move}
-use Rattle.seq_machine.specs.declared.state.Value.{Value}
-use Rattle.seq_machine.specs.Values.{Holds}
+use Rattle.seq_effects.specs.declared.state.Value.{Value}
+use Rattle.seq_effects.specs.Values.{Holds}
 use Rattle.seq_machine.specs.Acts.{move_values}
 use Rattle.seq_machine.proofs.FrameLists.{before}
 use Rattle.seq_machine.proofs.acts.move_values.Given as goal

@@ -1,5 +1,5 @@
 use Rattle.std.proofs.Common.{◌≡◌, drop}
-use Rattle.seq_machine.specs.Values.{AreOf}
+use Rattle.seq_effects.specs.Values.{AreOf}
 use Rattle.seq_machine.specs.Acts.{set_moves}
 use Rattle.seq_machine.proofs.acts.set_moves.Given as goal
 

@@ -1,6 +1,6 @@
 use Rattle.std.proofs.Common.{◌≡◌, Some}
 use Rattle.seq_machine.specs.Acts.{top, control_of, acted_of}
-use Rattle.seq_machine.specs.Script.{sent}
+use Rattle.seq_effects.specs.Script.{sent}
 use Rattle.seq_machine.specs.Step.{here}
 use Rattle.seq_machine.proofs.FrameLists.{same_some}
 use Rattle.seq_machine.proofs.Steps.{effect_of, here_of, here_same, performed, cut_off}

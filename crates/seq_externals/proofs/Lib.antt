@@ -1,0 +1,3 @@
+pub mod TextLoop
+pub mod Printing
+pub mod TextLists

@@ -1,6 +1,0 @@
-use Rattle.std.proofs.Common.{◌≡◌, map, take}
-use Rattle.seq_machine.specs.Externals.{arg_of}
-use Rattle.seq_machine.proofs.texts.args_of.Given as goal
-
-abbrev pub invariant-loop-value : goal.invariant-loop-value
-invariant-loop-value l = l.args ≡ map arg_of (take l.value-index l.values)
