@@ -2,10 +2,11 @@
 use Rattle.std.proofs.Common.{arith, rules, ◌≡◌, ◌≢◌, ◌<◌, ◌≤◌, ◌⊎◌, inl, inr, ℕ, List, [], ◌∷◌, ◌++◌, length, Option, Some, None, IfSome, refl, ◌∙◌, sym, ap, subst, option_map, append-nil}
 use Rattle.pv_base.specs.Outside.{Text, AppendsFront, Front, appended, Rose}
 use Rattle.pv_base.proofs.Fronts.{appends_none}
-use Rattle.privateer_core.specs.Answers.{Answers, Delivers, IsAnswer, IsQuiet, IsReported, fault_line}
+use Rattle.plain_commands.specs.Answers.{Answers, IsAnswer, IsQuiet, fault_line}
+use Rattle.privateer_core.specs.Delivering.{Delivers, IsReported}
 use Rattle.command_words.specs.Requests.{Asked}
-use Rattle.privateer_core.specs.Commands.{Wanted, wanted_of}
-use Rattle.privateer_core.specs.declared.answer.Answer.{Answer}
+use Rattle.privateer_core.specs.Requests.{Wanted, wanted_of}
+use Rattle.plain_commands.specs.declared.answer.Answer.{Answer}
 
 appended_none : (held : Option Text) → appended held [] ≡ held
 appended_none None = refl

@@ -1,4 +1,2 @@
-pub mod FileLemmas
-pub mod LoadLemmas
-pub mod CommandLemmas
+pub mod RequestLemmas
 pub mod DeliverLemmas

@@ -1,3 +1,2 @@
-pub mod Answers
-pub mod Loading
-pub mod Commands
+pub mod Delivering
+pub mod Requests

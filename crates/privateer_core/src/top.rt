@@ -1,13 +1,14 @@
 //! The top call.
 ghost use Rattle.std.specs.Prelude.{◌≡◌, ◌≢◌, ◌<◌, ◌≤◌, ◌⊎◌, IfSome};
 ghost use Rattle.pv_base.specs.Outside.{Text, Rose, AppendsFront, appended};
-ghost use Rattle.privateer_core.specs.Answers.{Delivers, IsAnswer, IsQuiet, PutsAll, fault_line};
+ghost use Rattle.plain_commands.specs.Answers.{IsAnswer, IsQuiet, fault_line};
+ghost use Rattle.privateer_core.specs.Delivering.{Delivers, PutsAll};
 ghost use Rattle.command_words.specs.Requests.{asked_of, lacking};
 ghost use Rattle.command_words.specs.PlainLines.{ReadsPlain};
-ghost use Rattle.privateer_core.specs.Commands.{Wanted, IsUsage, IsAnswered};
+ghost use Rattle.privateer_core.specs.Requests.{Wanted, IsUsage, IsAnswered};
 
-use crate::answer::Answer;
-use crate::commands::answer;
+use crate::requests::answer;
+use plain_commands::answer::Answer;
 use pv_base::bytes::Bytes;
 use pv_base::list::List;
 use pv_base::outside::{Files, Sink};

@@ -2,7 +2,7 @@
 use crate::calls::{check, joined, run};
 use crate::modules::{COUNT_ITEMS, TABLE_ITEMS};
 use ir_reader::whole::read_module;
-use privateer_core::commands::FILE_LIMIT;
+use plain_commands::commands::FILE_LIMIT;
 use pv_base::bytes::Bytes;
 use pv_base::want::Memory;
 use rule_tests::meets::meets_rules;

@@ -18,4 +18,6 @@ mod memory;
 #[cfg(test)]
 mod modules;
 #[cfg(test)]
+mod statuses;
+#[cfg(test)]
 mod tables;

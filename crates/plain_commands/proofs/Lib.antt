@@ -1,0 +1,3 @@
+pub mod FileLemmas
+pub mod LoadLemmas
+pub mod CommandLemmas

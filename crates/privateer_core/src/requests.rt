@@ -1,0 +1,52 @@
+//! What is answered to the words.
+ghost use Rattle.std.specs.Prelude.{◌≡◌, ◌≤◌, ◌↔◌, IfOk};
+ghost use Rattle.command_words.specs.Requests.{asked_of, asks};
+ghost use Rattle.plain_commands.specs.Answers.{Answers};
+ghost use Rattle.privateer_core.specs.Requests.{Wanted, IsUsage, IsAnswered};
+
+use command_words::request::{Request, read_request};
+use plain_commands::answer::{Answer, refuse};
+use plain_commands::commands::{check_command, run_command};
+use pv_base::bytes::Bytes;
+use pv_base::list::List;
+use pv_base::outside::Files;
+use pv_base::want::Memory;
+use std::alloc::Global;
+
+const USAGE: u8 = 4;
+
+/// What a request is answered.
+fn answer_request<F: Files>(
+    alloc: Global,
+    files: &mut F,
+    request: &Request,
+) -> Result<Answer, Memory>
+    ensures content { F.content files.new ≡ F.content files.old }
+    ensures later { F.faults files.old ≤ F.faults files.new }
+    ensures answers { IfOk result (λ a. Answers (λ a. Wanted (F.content files.old) (asks request.now) (λ w. a ≡ w)) (F.faults files.old) (F.faults files.new) a) }
+    ensures usage { IfOk result (λ a. (a.status ≡ 4) ↔ IsUsage (asks request.now)) }
+    ensures answered { IsAnswered (asks request.now) }
+{
+    match request {
+        Request::Usage { line } => refuse(alloc, USAGE, line.as_slice()),
+        Request::Refused { text } => refuse(alloc, USAGE, text.as_slice()),
+        Request::Run {
+            code,
+            input,
+            budget,
+        } => run_command(alloc, files, code.as_str(), input.as_str(), *budget),
+        Request::Check { code } => check_command(alloc, files, code.as_str()),
+    }
+}
+
+/// What the words are answered.
+pub fn answer<F: Files>(alloc: Global, words: &List<Bytes>, files: &mut F) -> Result<Answer, Memory>
+    ensures content { F.content files.new ≡ F.content files.old }
+    ensures later { F.faults files.old ≤ F.faults files.new }
+    ensures answers { IfOk result (λ a. Answers (λ a. Wanted (F.content files.old) (asked_of words.now) (λ w. a ≡ w)) (F.faults files.old) (F.faults files.new) a) }
+    ensures usage { IfOk result (λ a. (a.status ≡ 4) ↔ IsUsage (asked_of words.now)) }
+    ensures answered { IfOk result (λ a. IsAnswered (asked_of words.now)) }
+{
+    let request = read_request(alloc, words.as_slice())?;
+    answer_request(alloc, files, &request)
+}
