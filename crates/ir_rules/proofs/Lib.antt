@@ -14,3 +14,5 @@ pub mod MeetingLemmas
 pub mod CallLemmas
 pub mod EdgeLemmas
 pub mod OuterLemmas
+pub mod WrittenLemmas
+pub mod NumberingLemmas

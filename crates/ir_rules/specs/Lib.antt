@@ -9,6 +9,7 @@ pub mod Spots
 pub mod Causes
 pub mod Faults
 pub mod Numbering
+pub mod Laws
 pub mod Reading
 pub mod Checked
 pub mod Heads

@@ -15,6 +15,7 @@ pub mod forms;
 pub mod given;
 pub mod labels;
 pub mod meeting;
+pub mod numbers;
 pub mod operands;
 pub mod parts;
 pub mod paths;

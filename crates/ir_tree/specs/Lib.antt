@@ -7,3 +7,4 @@ pub mod Bounds
 pub mod Filling
 pub mod Modules
 pub mod Written
+pub mod Staying

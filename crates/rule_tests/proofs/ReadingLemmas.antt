@@ -1,9 +1,7 @@
 -- What a module keeps that is read from text, by numbers and written out.
-use Rattle.std.proofs.Common.{◌≡◌, ℕ, zero, suc, ◌<◌, ◌≤◌, ◌+◌, Bool, true, false, List, [], ◌∷◌, ◌++◌, map, length, drop, get_or, Option, Some, None, refl, sym, ap, ◌∙◌, arith}
+use Rattle.std.proofs.Common.{◌≡◌, ℕ, zero, suc, ◌<◌, ◌+◌, Bool, true, false, List, [], ◌∷◌, ◌++◌, map, length, get_or, Option, Some, None, refl, sym, ap, ◌∙◌, arith}
 use Rattle.std.specs.Prelude.{not, ◌&&◌, ◌||◌, option_map, nat_eq, is_some, if◌then◌else◌}
 use Rattle.std.specs.List.{list_any, list_all, range_with_len}
-use Rattle.std.proofs.Math.Seq.{drop-cons}
-use Rattle.std.proofs.lemmas.List.{drop_all}
 use Rattle.std.proofs.lemmas.List.Folds.{list_all-map}
 use Rattle.ir_tree.specs.declared.instruction.Argument.{Argument}
 use Rattle.ir_tree.specs.declared.instruction.Case.{Case}
@@ -18,6 +16,8 @@ use Rattle.ir_tree.specs.Naming.{name_at, type_at, constant_at, types_at}
 use Rattle.ir_tree.specs.Shown.{shown, shown_argument, shown_case}
 use Rattle.ir_rules.specs.Forms.{memory_types, argument_types, answer_types, register_types, called_types, case_values}
 use Rattle.ir_rules.specs.Reading.{all_differ, is_register, is_answer, has_layout, case_bits, indices_stand, instruction_stands, none_void, is_void, is_known_type}
+use Rattle.ir_rules.proofs.SameLemmas.{and_both}
+use Rattle.ir_rules.proofs.WrittenLemmas.{memory_shown, called_shown}
 
 map_map : {X Y Z V : Type 0} (f : Y → Z) (g : X → Y) (h : V → Z) (k : X → V) → ((x : X) → f (g x) ≡ h (k x)) → (xs : List X) → map f (map g xs) ≡ map h (map k xs)
 map_map f g h k e [] = refl
@@ -59,44 +59,6 @@ registers_shown t (instruction.Jump target) = refl
 registers_shown t (instruction.Branch condition on_true on_false) = refl
 registers_shown t (instruction.Switch of value default cases) = refl
 registers_shown t instruction.Unreachable = refl
-
-pub called_shown : (t : Table) (i : Instruction ℕ ℕ ℕ) → called_types (shown t i) ≡ map (type_at t) (called_types i)
-unfolding shown called_types
-called_shown t (instruction.Binary to op flags of left right) = refl
-called_shown t (instruction.Cast to op flags of value target) = refl
-called_shown t (instruction.Freeze to of value) = refl
-called_shown t (instruction.Compare to pred of left right) = refl
-called_shown t (instruction.Select to condition of on_true on_false) = refl
-called_shown t (instruction.Phi to of arms) = refl
-called_shown t (instruction.Alloca to of count) = refl
-called_shown t (instruction.Load to of pointer) = refl
-called_shown t (instruction.Store of value pointer) = refl
-called_shown t (instruction.Address to inbounds of base indices) = refl
-called_shown t (instruction.Call to of variadic what arguments) = refl
-called_shown t (instruction.Return value) = refl
-called_shown t (instruction.Jump target) = refl
-called_shown t (instruction.Branch condition on_true on_false) = refl
-called_shown t (instruction.Switch of value default cases) = refl
-called_shown t instruction.Unreachable = refl
-
-pub memory_shown : (t : Table) (i : Instruction ℕ ℕ ℕ) → memory_types (shown t i) ≡ map (type_at t) (memory_types i)
-unfolding shown memory_types
-memory_shown t (instruction.Binary to op flags of left right) = refl
-memory_shown t (instruction.Cast to op flags of value target) = refl
-memory_shown t (instruction.Freeze to of value) = refl
-memory_shown t (instruction.Compare to pred of left right) = refl
-memory_shown t (instruction.Select to condition of on_true on_false) = refl
-memory_shown t (instruction.Phi to of arms) = refl
-memory_shown t (instruction.Alloca to of count) = refl
-memory_shown t (instruction.Load to of pointer) = refl
-memory_shown t (instruction.Store of value pointer) = refl
-memory_shown t (instruction.Address to inbounds of base indices) = refl
-memory_shown t (instruction.Call to of variadic what arguments) = refl
-memory_shown t (instruction.Return value) = refl
-memory_shown t (instruction.Jump target) = refl
-memory_shown t (instruction.Branch condition on_true on_false) = refl
-memory_shown t (instruction.Switch of value default cases) = refl
-memory_shown t instruction.Unreachable = refl
 
 pub cases_shown : (t : Table) (i : Instruction ℕ ℕ ℕ) → case_values (shown t i) ≡ map (constant_at t) (case_values i)
 unfolding shown case_values
@@ -153,6 +115,15 @@ below_from p a (suc n) h =
 -- all below pass
 pub all_below : (p : ℕ → Bool) (n : ℕ) → ((j : ℕ) → j < n → p j ≡ true) → true ≡ list_all p (range_with_len 0 n)
 all_below p n h = sym (below_from p 0 n (λ j lt. let z : 0 + j ≡ j = omega arith in rw z (h j lt)))
+
+-- all below pass, one by one
+below_each : (p : ℕ → Bool) (a n : ℕ) → list_all p (range_with_len a n) ≡ true → (j : ℕ) → j < n → p (a + j) ≡ true
+below_each p a zero e j lt = absurd (omega arith)
+below_each p a (suc n) e zero lt = let z : a + 0 ≡ a = omega arith in rw z (and_both (p a) (list_all p (range_with_len (a + 1) n)) e).0
+below_each p a (suc n) e (suc j) lt = let q : a + suc j ≡ a + 1 + j = omega arith in rw q (below_each p (a + 1) n (and_both (p a) (list_all p (range_with_len (a + 1) n)) e).1 j (omega arith))
+
+pub below_all : (p : ℕ → Bool) (n : ℕ) → list_all p (range_with_len 0 n) ≡ true → (j : ℕ) → j < n → p j ≡ true
+below_all p n e j lt = let z : 0 + j ≡ j = omega arith in rw z at (below_each p 0 n e j lt)
 
 and_no : (b : Bool) → (b && false) ≡ false
 and_no true = refl

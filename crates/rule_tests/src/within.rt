@@ -259,7 +259,7 @@ fn globals_within(names: &Names, globals: &[Variable]) -> bool
 }
 
 /// Whether the numbers in the items of a module are of its table. What stands in its constants is, by the table's own rule.
-#[tactic(auto, using(crate::proofs::WithinLemmas::constants_are, crate::proofs::WithinLemmas::and_true))]
+#[tactic(auto, using(ir_rules::proofs::NumberingLemmas::constants_are, crate::proofs::WithinLemmas::and_true))]
 pub fn is_within(alloc: Global, tree: &Module) -> Result<bool, Memory>
     ensures { IfOk result (λ b. b ≡ is_within tree.now) }
 {
