@@ -44,6 +44,6 @@ all_fit m i (g ∷ gs) laid fit =
 -- what is true of every checked module
 pub globals_fit : (m : Items) → length m.globals ≤ 2 ^ 31 → IsChecked m → GlobalsFit m
 globals_fit m few is = record {
-  live = let all = all_fit m 0 m.globals is.well_formed.layouts (global_fits (seen m) is.faultless) in let sizes = is.well_formed.sizes in omega (arith, all, sizes);
+  live = let all = all_fit m 0 m.globals is.well_formed.stands.layouts (global_fits (seen m) is.faultless) in let sizes = is.well_formed.stands.sizes in omega (arith, all, sizes);
   names = few;
 }

@@ -3,7 +3,7 @@ ghost use Rattle.std.specs.Prelude.{◌≡◌, option_map};
 ghost use Rattle.ir_tree.specs.Table.{same_name};
 ghost use Rattle.ir_tree.specs.Naming.{name_at, type_at};
 ghost use Rattle.ir_rules.specs.Constants.{is_pointer, is_integer, has_width};
-ghost use Rattle.ir_rules.specs.Reading.{is_register, is_answer, is_void, is_struct};
+ghost use Rattle.ir_rules.specs.Reading.{is_width, is_register, is_answer, is_void, is_struct};
 ghost use Rattle.ir_rules.specs.Heads.{head_type, name_or};
 
 use ir_tree::nodes::{NameId, TypeId, TypeNode};
@@ -141,12 +141,19 @@ pub fn is_struct(names: &Names, of: TypeId) -> bool
     }
 }
 
+/// Whether integers have this width.
+fn is_width(width: u32) -> bool
+    ensures { result ≡ is_width width }
+{
+    0 < width && width <= 64
+}
+
 /// Whether the type is one of registers: `iN` or `ptr`.
 pub fn is_register(names: &Names, of: TypeId) -> bool
     ensures { result ≡ is_register (type_at names.now of) }
 {
     match head_of(names, of) {
-        Head::Int(_) => true,
+        Head::Int(width) => is_width(width),
         Head::Pointer => true,
         _ => false,
     }
@@ -157,7 +164,7 @@ pub fn is_answer(names: &Names, of: TypeId) -> bool
     ensures { result ≡ is_answer (type_at names.now of) }
 {
     match head_of(names, of) {
-        Head::Int(_) => true,
+        Head::Int(width) => is_width(width),
         Head::Pointer => true,
         Head::Void => true,
         _ => false,

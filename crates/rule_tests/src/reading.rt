@@ -4,7 +4,7 @@ ghost use Rattle.std.specs.List.{list_all};
 ghost use Rattle.ir_tree.specs.Naming.{name_at, type_at};
 ghost use Rattle.ir_tree.specs.Modules.{layout_in, types_of};
 ghost use Rattle.ir_tree.specs.Shown.{shown_function};
-ghost use Rattle.ir_rules.specs.Reading.{is_struct, size_of, has_layout, names_differ, function_stands, IsWellFormed};
+ghost use Rattle.ir_rules.specs.Reading.{is_struct, size_of, has_layout, names_differ, function_stands, IsWellFormed, TableStands};
 ghost use Rattle.rule_tests.specs.Tested.{table_stands, items_differ, globals_stand, module_stands};
 
 use crate::differing::names_differ;
@@ -173,10 +173,11 @@ fn module_stands(alloc: Global, tree: &Module) -> Result<bool, Memory>
     Ok(all_five(within, table, items, globals, functions))
 }
 
-/// Whether nothing in a module breaks what reading keeps.
+/// Whether nothing in a module breaks what reading keeps, nor in its table, whether the items use it or not.
 #[tactic(auto, using(crate::proofs::TestedLemmas::stands_is))]
 pub fn is_well_formed(alloc: Global, tree: &Module) -> Result<bool, Memory>
-    ensures { IfOk result (λ b. IsTrue b ↔ IsWellFormed tree.now) }
+    ensures { IfOk result (λ b. IsTrue b ↔ (IsWellFormed tree.now × TableStands tree.now)) }
 {
+    tree.names().is_table();
     module_stands(alloc, tree)
 }
