@@ -1,7 +1,7 @@
 -- What every module keeps that is read from text, and that a tree can break: registers have the types of registers, widths are 1 to
 -- 64, nothing is defined twice, memory is named of types with a layout, and numbers and counts stay below their limits.
 use Rattle.std.specs.Prelude.{◌≡◌, ◌<◌, ◌≤◌, ◌^◌, ℕ, suc, Bool, true, false, not, ◌&&◌, ◌||◌, nat_lt, nat_le, nat_eq, List, [], ◌∷◌, ◌++◌, map, length, is_some, sum_by, Option, Some, None}
-use Rattle.std.specs.List.{list_any, list_all, flat_map, range_with_len}
+use Rattle.std.specs.List.{list_any, list_all, flat_map, filter_map, range_with_len}
 use Rattle.pv_base.specs.declared.name.Name.{Name}
 use Rattle.pv_base.specs.declared.name.Name.TheVariants.{Named, Numbered}
 use Rattle.int_num.specs.Integer.{Integer}
@@ -15,14 +15,14 @@ use Rattle.ir_tree.specs.declared.items.Param.{Param}
 use Rattle.ir_tree.specs.declared.items.Function.{Function}
 use Rattle.ir_tree.specs.Table.{Table, same_name}
 use Rattle.ir_tree.specs.Trees.{TypeV, IntV, PtrV, VoidV, ArrayV, StructV, NamedV, TypesV, NoneV, MoreV}
-use Rattle.ir_tree.specs.Trees.{ConstantV, IntegerC, ArrayC, StructC, AddressC, ElementsV, NoneC, MoreC}
+use Rattle.ir_tree.specs.Trees.{ConstantV, ArrayC, StructC, AddressC, ElementsV, NoneC, MoreC}
 use Rattle.ir_tree.specs.Naming.{type_at, constant_at}
 use Rattle.ir_tree.specs.Layouts.{layout_of}
 use Rattle.ir_tree.specs.Modules.{Items}
 use Rattle.ir_rules.specs.Seen.{OperandV, InstructionV, BlockV, FunctionV, GlobalV, ModuleV, seen}
 use Rattle.ir_rules.specs.Forms.{uses, memory_types, register_types, called_types, case_values}
 use Rattle.ir_rules.specs.Defining.{defined}
-use Rattle.ir_rules.specs.Constants.{indices_of}
+use Rattle.ir_rules.specs.Constants.{constant_bits, indices_of}
 use Rattle.ir_rules.specs.Indexing.{path, is_inside}
 use Rattle.ir_rules.specs.Spots.{is_empty, instruction_count}
 use Rattle.ir_rules.specs.Causes.{operand_index}
@@ -113,11 +113,6 @@ name_stands (Numbered n) = nat_lt n (2 ^ 63)
 
 -- ---- instructions
 
--- the bits of a case
-abbrev pub case_bits : ConstantV → ℕ
-case_bits (IntegerC n) = n.bits
-case_bits c = 0
-
 unfoldable pub indices_stand : List (NamedType Name TypeV) → InstructionV → Bool
 indices_stand types (instruction.Address to inbounds of base indices) = is_inside (path types of (map (λ a. operand_index a.of a.value) indices))
 indices_stand types i = true
@@ -125,7 +120,7 @@ indices_stand types i = true
 abbrev pub instruction_stands : List (NamedType Name TypeV) → InstructionV → Bool
 instruction_stands types i =
     list_all is_register (register_types i) && list_all is_answer (called_types i) && list_all (has_layout types) (memory_types i)
-    && all_differ nat_eq (map case_bits (case_values i)) && indices_stand types i
+    && all_differ nat_eq (filter_map constant_bits (case_values i)) && indices_stand types i
 
 abbrev pub operand_stands : List (NamedType Name TypeV) → OperandV → Bool
 operand_stands types (operand.Register name) = true

@@ -1,7 +1,7 @@
 -- What a module keeps that is read from text, by numbers and written out.
 use Rattle.std.proofs.Common.{◌≡◌, ℕ, zero, suc, ◌<◌, ◌+◌, Bool, true, false, List, [], ◌∷◌, ◌++◌, map, length, get_or, Option, Some, None, refl, sym, ap, ◌∙◌, arith}
 use Rattle.std.specs.Prelude.{not, ◌&&◌, ◌||◌, option_map, nat_eq, is_some, if◌then◌else◌}
-use Rattle.std.specs.List.{list_any, list_all, range_with_len}
+use Rattle.std.specs.List.{list_any, list_all, range_with_len, filter_map, cons_option}
 use Rattle.std.proofs.lemmas.List.Folds.{list_all-map}
 use Rattle.ir_tree.specs.declared.instruction.Argument.{Argument}
 use Rattle.ir_tree.specs.declared.instruction.Case.{Case}
@@ -15,7 +15,8 @@ use Rattle.ir_tree.specs.Layouts.{type_named, opened}
 use Rattle.ir_tree.specs.Naming.{name_at, type_at, constant_at, types_at}
 use Rattle.ir_tree.specs.Shown.{shown, shown_argument, shown_case}
 use Rattle.ir_rules.specs.Forms.{memory_types, argument_types, answer_types, register_types, called_types, case_values}
-use Rattle.ir_rules.specs.Reading.{all_differ, is_register, is_answer, has_layout, case_bits, indices_stand, instruction_stands, none_void, is_void, is_known_type}
+use Rattle.ir_rules.specs.Constants.{constant_bits}
+use Rattle.ir_rules.specs.Reading.{all_differ, is_register, is_answer, has_layout, indices_stand, instruction_stands, none_void, is_void, is_known_type}
 use Rattle.ir_rules.proofs.SameLemmas.{and_both}
 use Rattle.ir_rules.proofs.WrittenLemmas.{memory_shown, called_shown}
 
@@ -80,22 +81,21 @@ cases_shown t (instruction.Switch of value default cases) = map_map (λ c. c.val
 cases_shown t instruction.Unreachable = refl
 
 -- the bits of cases
-pub bits_of_cases : (t : Table) (cases : List (Case ℕ ℕ)) → map (λ k. case_bits (constant_at t k)) (map (λ c. c.value) cases) ≡ map (λ c. case_bits (constant_at t c.value)) cases
-bits_of_cases t [] = refl
-bits_of_cases t (c ∷ cases) = ap (λ l. case_bits (constant_at t c.value) ∷ l) (bits_of_cases t cases)
-
-through : {X Y Z : Type 0} (f : Y → Z) (g : X → Y) (xs : List X) → map f (map g xs) ≡ map (λ x. f (g x)) xs
+through : {X Y Z : Type 0} (f : Y → Option Z) (g : X → Y) (xs : List X) → filter_map f (map g xs) ≡ filter_map (λ x. f (g x)) xs
 through f g [] = refl
-through f g (x ∷ xs) = ap (λ l. f (g x) ∷ l) (through f g xs)
+through f g (x ∷ xs) = ap (cons_option (f (g x))) (through f g xs)
+
+pub bits_of_cases : (t : Table) (cases : List (Case ℕ ℕ)) → filter_map (λ k. constant_bits (constant_at t k)) (map (λ c. c.value) cases) ≡ filter_map (λ c. constant_bits (constant_at t c.value)) cases
+bits_of_cases t cases = through (λ k. constant_bits (constant_at t k)) (λ (c : Case ℕ ℕ). c.value) cases
 
 pub instruction_is : (t : Table) (types : List (NamedType Name TypeV)) (i : Instruction ℕ ℕ ℕ) → instruction_stands types (shown t i)
     ≡ (list_all (λ k. is_register (type_at t k)) (register_types i) && list_all (λ k. is_answer (type_at t k)) (called_types i) && list_all (λ k. has_layout types (type_at t k)) (memory_types i)
-    && all_differ nat_eq (map (λ k. case_bits (constant_at t k)) (case_values i)) && indices_stand types (shown t i))
+    && all_differ nat_eq (filter_map (λ k. constant_bits (constant_at t k)) (case_values i)) && indices_stand types (shown t i))
 instruction_is t types i =
     let registers : list_all is_register (register_types (shown t i)) ≡ list_all (λ k. is_register (type_at t k)) (register_types i) = ap (list_all is_register) (registers_shown t i) ∙ list_all-map is_register (type_at t) (register_types i) in
     let answer : list_all is_answer (called_types (shown t i)) ≡ list_all (λ k. is_answer (type_at t k)) (called_types i) = ap (list_all is_answer) (called_shown t i) ∙ list_all-map is_answer (type_at t) (called_types i) in
     let memory : list_all (has_layout types) (memory_types (shown t i)) ≡ list_all (λ k. has_layout types (type_at t k)) (memory_types i) = ap (list_all (has_layout types)) (memory_shown t i) ∙ list_all-map (has_layout types) (type_at t) (memory_types i) in
-    let bits : map case_bits (case_values (shown t i)) ≡ map (λ k. case_bits (constant_at t k)) (case_values i) = ap (map case_bits) (cases_shown t i) ∙ through case_bits (constant_at t) (case_values i) in
+    let bits : filter_map constant_bits (case_values (shown t i)) ≡ filter_map (λ k. constant_bits (constant_at t k)) (case_values i) = ap (filter_map constant_bits) (cases_shown t i) ∙ through constant_bits (constant_at t) (case_values i) in
     rw (registers, answer, memory, bits) refl
 
 -- the fields of a struct

@@ -1,13 +1,15 @@
 //! Whether an instruction is one of a module that is read from text.
 ghost use Rattle.std.specs.Prelude.{◌≡◌, ◌++◌, ◌∷◌, [], ◌&&◌, nat_eq, map, IfOk};
-ghost use Rattle.std.specs.List.{list_all};
+ghost use Rattle.std.specs.Option.{option_to_list};
+ghost use Rattle.std.specs.List.{list_all, filter_map};
 ghost use Rattle.ir_tree.specs.Naming.{type_at, constant_at};
 ghost use Rattle.ir_tree.specs.Modules.{types_of};
 ghost use Rattle.ir_tree.specs.Shown.{shown, shown_operand, shown_argument};
 ghost use Rattle.ir_rules.specs.Forms.{memory_types, argument_types, answer_types, register_types, called_types, case_values};
 ghost use Rattle.ir_rules.specs.Causes.{operand_index};
+ghost use Rattle.ir_rules.specs.Constants.{constant_bits};
 ghost use Rattle.ir_rules.specs.Indexing.{path, is_inside};
-ghost use Rattle.ir_rules.specs.Reading.{all_differ, is_register, is_answer, has_layout, case_bits, indices_stand, instruction_stands};
+ghost use Rattle.ir_rules.specs.Reading.{all_differ, is_register, is_answer, has_layout, indices_stand, instruction_stands};
 
 use crate::differing::numbers_differ;
 use crate::levels::{has_layout, is_inside};
@@ -123,27 +125,40 @@ fn memory_stands(tree: &Module, instruction: &Instruction) -> bool
     }
 }
 
-fn case_bits(names: &Names, value: ConstantId) -> u64
-    ensures { result ≡ case_bits (constant_at names.now value) }
+fn case_bits(names: &Names, value: ConstantId) -> Option<u64>
+    ensures { result ≡ constant_bits (constant_at names.now value) }
 {
     match constant(names, value) {
-        Some(ConstantNode::Integer(n)) => n.bits(),
-        _ => 0,
+        Some(ConstantNode::Integer(n)) => Some(n.bits()),
+        Some(ConstantNode::Zero) => Some(0),
+        _ => None,
+    }
+}
+
+fn with_one(mut all: List<u64>, one: Option<u64>) -> Result<List<u64>, Memory>
+    ensures { IfOk result (λ l. l ≡ all ++ option_to_list one) }
+{
+    match one {
+        Some(one) => {
+            all.push(one)?;
+            Ok(all)
+        }
+        None => Ok(all),
     }
 }
 
 fn all_case_bits(alloc: Global, names: &Names, cases: &[Case]) -> Result<List<u64>, Memory>
-    ensures { IfOk result (λ l. l ≡ map (λ c. case_bits (constant_at names.now c.value)) cases.now) }
+    ensures { IfOk result (λ l. l ≡ filter_map (λ c. constant_bits (constant_at names.now c.value)) cases.now) }
 {
     let mut all = List::new(alloc);
     for case in cases {
-        all.push(case_bits(names, case.value))?;
+        all = with_one(all, case_bits(names, case.value))?;
     }
     Ok(all)
 }
 
 fn values_differ(alloc: Global, names: &Names, cases: &[Case]) -> Result<bool, Memory>
-    ensures { IfOk result (λ b. b ≡ all_differ nat_eq (map (λ k. case_bits (constant_at names.now k)) (map (λ c. c.value) cases.now))) }
+    ensures { IfOk result (λ b. b ≡ all_differ nat_eq (filter_map (λ k. constant_bits (constant_at names.now k)) (map (λ c. c.value) cases.now))) }
 {
     let all = all_case_bits(alloc, names, cases)?;
     let differ = numbers_differ(alloc, all.as_slice())?;
@@ -153,7 +168,7 @@ fn values_differ(alloc: Global, names: &Names, cases: &[Case]) -> Result<bool, M
 /// Whether the cases of a switch differ.
 #[tactic(auto, unfolding(ir_rules::specs::Forms::case_values, ir_rules::specs::Reading::all_differ))]
 fn cases_differ(alloc: Global, names: &Names, instruction: &Instruction) -> Result<bool, Memory>
-    ensures { IfOk result (λ b. b ≡ all_differ nat_eq (map (λ k. case_bits (constant_at names.now k)) (case_values instruction.now))) }
+    ensures { IfOk result (λ b. b ≡ all_differ nat_eq (filter_map (λ k. constant_bits (constant_at names.now k)) (case_values instruction.now))) }
 {
     match instruction {
         Instruction::Switch { cases, .. } => values_differ(alloc, names, cases.as_slice()),
