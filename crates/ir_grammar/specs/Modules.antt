@@ -17,8 +17,8 @@ pub data Item : Type 0 where
   -- one that is passed over
   PassedItem : Item
 
--- What was read of a module: its items so far, the names of its named types, those of its globals and functions, which are
--- one set, and how many bytes its globals take.
+-- What was read of a module: its globals and functions so far, the names of its named types, those of its globals and
+-- functions, which are one set, and how many bytes its globals take. The named types themselves are found before.
 pub record SoFar : Type 0 where
   pub module_so_far : ModuleV
   pub types : List Name
@@ -30,12 +30,7 @@ nothing_so_far = record { module_so_far = record { types = []; globals = []; fun
 
 -- with one more item
 abbrev pub with_item : SoFar → Item → SoFar
-with_item s (TypeItem t) = record {
-  module_so_far = record s.module_so_far { types = s.module_so_far.types ++ t ∷ [] };
-  types = with_name s.types t.name;
-  values = s.values;
-  size = s.size;
-}
+with_item s (TypeItem t) = record s { types = with_name s.types t.name }
 with_item s (GlobalItem g size) = record {
   module_so_far = record s.module_so_far { globals = s.module_so_far.globals ++ g ∷ [] };
   types = s.types;

@@ -1,10 +1,10 @@
 -- The named types of a whole text, found before its items are read.
-use Rattle.std.specs.Prelude.{Bool, true, false, ◌&&◌, if◌then◌else◌, List, [], ◌∷◌, map, drop, Option, Some, None, option_map, Ok, Err, codes}
+use Rattle.std.specs.Prelude.{Bool, true, false, ◌&&◌, if◌then◌else◌, List, [], ◌∷◌, ◌++◌, map, fold, drop, Option, Some, None, option_map, Ok, Err, codes}
 use Rattle.std.specs.Map.{lookup}
 use Rattle.pv_base.specs.declared.name.Name.{Name}
 use Rattle.ir_tree.specs.declared.items.NamedType.{NamedType}
 use Rattle.ir_tree.specs.Layouts.{layout_of}
-use Rattle.ir_tree.specs.Table.{same_name}
+use Rattle.ir_tree.specs.Table.{same_name, name_among}
 use Rattle.ir_tree.specs.Trees.{TypeV, StructV, NamedV, NoneV}
 use Rattle.ir_text.specs.Tokens.{TokenV, is_mark, is_word}
 use Rattle.ir_text.specs.Reading.{Outcome}
@@ -47,9 +47,21 @@ laid_body None = StructV true NoneV
 abbrev pub laid_types : List (Name × Option TypeV) → List (NamedType Name TypeV)
 laid_types bodies = map (λ b. record { name = b.0; of = laid_body b.1 }) bodies
 
+-- the types with this one, which stands last where its name is new
+abbrev pub with_type : List (NamedType Name TypeV) → NamedType Name TypeV → List (NamedType Name TypeV)
+with_type types t = if name_among t.name (map (λ u. u.name) types) then types else types ++ t ∷ []
+
+-- the named types, in text order, each with the first body of its name
+abbrev pub types_by : List (Name × Option TypeV) → List (NamedType Name TypeV)
+types_by bodies = fold with_type [] (laid_types bodies)
+
 -- the first body of a name counts
 abbrev pub known_by : List (Name × Option TypeV) → Known
-known_by bodies name = option_map (λ of. record { of = of; layout = layout_of (laid_types bodies) (NamedV name) }) (lookup (same_name name) bodies)
+known_by bodies name = option_map (λ of. record { of = of; layout = layout_of (types_by bodies) (NamedV name) }) (lookup (same_name name) bodies)
+
+-- the named types that a text with these tokens defines, wherever `%name = type` stands
+unfoldable pub types_in : List TokenV → List (NamedType Name TypeV)
+types_in ts = types_by (bodies_of (definitions ts))
 
 -- what a text with these tokens says of its named types
 unfoldable pub known_in : List TokenV → Known

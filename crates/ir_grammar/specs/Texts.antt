@@ -1,9 +1,12 @@
 -- A module's text: its module, or its first fault.
 use Rattle.std.specs.Prelude.{ℕ, ◌+◌, ◌-◌, ◌==◌, ◌&&◌, Bool, true, false, if◌then◌else◌, fold, length, take, count_by, List, [], ◌∷◌, Option, Some, None, Result, Ok, Err, codes}
+use Rattle.pv_base.specs.declared.name.Name.{Name}
 use Rattle.ir_lex.specs.declared.token.Token.{Token}
 use Rattle.ir_lex.specs.declared.token.Cause.TheVariants as causes
 use Rattle.ir_lex.specs.declared.token.ReadError.{ReadError}
 use Rattle.ir_lex.specs.Lexing.{lexed}
+use Rattle.ir_tree.specs.declared.items.NamedType.{NamedType}
+use Rattle.ir_tree.specs.Trees.{TypeV}
 use Rattle.ir_text.specs.declared.fault.Fault.TheVariants.{At, Ended}
 use Rattle.ir_text.specs.Tokens.{TokenV, token_of, tokens_of, same, is_mark}
 use Rattle.ir_text.specs.Reading.{Outcome, Reader, ◌>>=◌}
@@ -11,7 +14,7 @@ use Rattle.ir_text.specs.Passed.{is_any_word}
 use Rattle.ir_text.specs.Types.{Known}
 use Rattle.ir_grammar.specs.Modules.{ModuleV, nothing_so_far, with_item}
 use Rattle.ir_grammar.specs.Items.{items_at}
-use Rattle.ir_grammar.specs.NamedTypes.{known_in}
+use Rattle.ir_grammar.specs.NamedTypes.{types_in, known_in}
 
 -- ---- lines that are passed over
 
@@ -59,15 +62,15 @@ settled last fault (Ok x) = unless_fault fault x.0
 settled last fault (Err (At line cause)) = Err (record { line = line; cause = cause })
 settled last fault (Err Ended) = Err (end_of last fault)
 
--- the module of all items
-abbrev pub module_at : Known → Reader ModuleV
-module_at known ts = items_at known ts >>= λ all. Ok ((fold with_item nothing_so_far all.0).module_so_far, all.1)
+-- the module of these named types and of all items
+abbrev pub module_at : List (NamedType Name TypeV) → Known → Reader ModuleV
+module_at types known ts = items_at known ts >>= λ all. Ok (record (fold with_item nothing_so_far all.0).module_so_far { types = types }, all.1)
 
 -- the tokens that are read
 unfoldable pub read_tokens : List ℕ → List TokenV
 read_tokens text = tokens_of text (without_records text (lexed text).tokens)
 
--- The module of a text, or the line and the cause of its first fault. The named types of the whole text are known at each
--- place of it.
+-- The module of a text, or the line and the cause of its first fault. The named types of the whole text are its types, and
+-- are known at each place of it.
 unfoldable pub read_of : List ℕ → Result ModuleV ReadError
-read_of text = settled (last_line text) (lexed text).fault (module_at (known_in (read_tokens text)) (read_tokens text))
+read_of text = settled (last_line text) (lexed text).fault (module_at (types_in (read_tokens text)) (known_in (read_tokens text)) (read_tokens text))

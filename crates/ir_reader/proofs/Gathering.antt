@@ -1,5 +1,5 @@
 -- What was read of a module, with one more item.
-use Rattle.std.proofs.Common.{◌≡◌, ℕ, ◌+◌, ◌<◌, ◌≤◌, Bool, true, false, cond, List, [], ◌∷◌, ◌++◌, length, get_or, All, refl}
+use Rattle.std.proofs.Common.{◌≡◌, ℕ, ◌+◌, ◌<◌, ◌≤◌, Bool, true, false, cond, List, [], ◌∷◌, ◌++◌, length, All, refl}
 use Rattle.std.proofs.lemmas.List.{map-append}
 use Rattle.std.proofs.lemmas.List.Elements.{All-push}
 use Rattle.ir_tree.specs.declared.items.NamedType.{NamedType}
@@ -7,9 +7,7 @@ use Rattle.ir_tree.specs.declared.items.Global.{Global}
 use Rattle.ir_tree.specs.declared.items.Function.{Function}
 use Rattle.ir_tree.specs.Table.{Table, IsTable}
 use Rattle.ir_tree.specs.Naming.{Grows}
-use Rattle.ir_tree.specs.Filling.{NamedWithin}
 use Rattle.ir_tree.specs.Shown.{shown_named, shown_global, shown_function}
-use Rattle.ir_tree.proofs.Showing.{type_within_more, name_within_more}
 use Rattle.ir_instr.specs.Defined.{AreNames, number_among, with_number}
 use Rattle.ir_instr.proofs.Kept.{names_kept}
 use Rattle.ir_grammar.specs.Modules as grammar
@@ -27,9 +25,8 @@ names_with table ks k all lt = by_test (number_among k ks)
 
 module _ (table : Table) (is : IsTable table) (s : SoFar) (within : SoFarWithin table s) where
   module _ (later : Table) (grows : Grows table later) where
-    pub type_added : (n : NamedType ℕ ℕ) → n.name < length table.names
-        → so_far_at later (record s { named_types = s.named_types ++ n ∷ []; types = with_number s.types n.name }) ≡ grammar.with_item (so_far_at later s) (grammar.TypeItem (shown_named later n))
-    type_added n lt = rw (map-append (shown_named later) s.named_types (n ∷ []), with_later table later is grows s.types n.name within.types lt) refl
+    pub type_added : (n : NamedType ℕ ℕ) → n.name < length table.names → so_far_at later (record s { types = with_number s.types n.name }) ≡ grammar.with_item (so_far_at later s) (grammar.TypeItem (shown_named later n))
+    type_added n lt = rw (with_later table later is grows s.types n.name within.types lt) refl
 
     pub global_added : (g : Global ℕ ℕ ℕ) (bytes : ℕ) → g.name < length table.names
         → so_far_at later (record s { globals = s.globals ++ g ∷ []; values = with_number s.values g.name; size = s.size + bytes }) ≡ grammar.with_item (so_far_at later s) (grammar.GlobalItem (shown_global later g) bytes)
@@ -39,23 +36,15 @@ module _ (table : Table) (is : IsTable table) (s : SoFar) (within : SoFarWithin 
         → so_far_at later (record s { functions = s.functions ++ f ∷ []; values = with_number s.values f.name }) ≡ grammar.with_item (so_far_at later s) (grammar.FunctionItem (shown_function later f))
     function_added f lt = rw (map-append (shown_function later) s.functions (f ∷ []), with_later table later is grows s.values f.name within.values lt) refl
 
-  pub type_within : (n : NamedType ℕ ℕ) → NamedWithin table n → SoFarWithin table (record s { named_types = s.named_types ++ n ∷ []; types = with_number s.types n.name })
-  type_within n lt = record { types = names_with table s.types n.name within.types lt.name; values = within.values; size = within.size; named = All-push (NamedWithin table) s.named_types n within.named lt }
+  pub type_within : (n : NamedType ℕ ℕ) → n.name < length table.names → SoFarWithin table (record s { types = with_number s.types n.name })
+  type_within n lt = record { types = names_with table s.types n.name within.types lt; values = within.values; size = within.size }
 
   pub global_within : (g : Global ℕ ℕ ℕ) (bytes : ℕ) → g.name < length table.names → s.size + bytes ≤ 4194304 → SoFarWithin table (record s { globals = s.globals ++ g ∷ []; values = with_number s.values g.name; size = s.size + bytes })
-  global_within g bytes lt fits = record { types = within.types; values = names_with table s.values g.name within.values lt; size = fits; named = within.named }
+  global_within g bytes lt fits = record { types = within.types; values = names_with table s.values g.name within.values lt; size = fits }
 
   pub function_within : (f : Function ℕ ℕ ℕ) → f.name < length table.names → SoFarWithin table (record s { functions = s.functions ++ f ∷ []; values = with_number s.values f.name })
-  function_within f lt = record { types = within.types; values = names_with table s.values f.name within.values lt; size = within.size; named = within.named }
+  function_within f lt = record { types = within.types; values = names_with table s.values f.name within.values lt; size = within.size }
 
 -- a later table has the same numbers
 pub so_far_kept : (a b : Table) (s : SoFar) → SoFarWithin a s → Grows a b → SoFarWithin b s
-so_far_kept a b s within grows = record {
-  types = names_kept a b s.types within.types grows;
-  values = names_kept a b s.values within.values grows;
-  size = within.size;
-  named = λ i d lt. named_kept a b (get_or s.named_types i d) (within.named i d lt) grows;
-}
-  where
-    named_kept : (a b : Table) (n : NamedType ℕ ℕ) → NamedWithin a n → Grows a b → NamedWithin b n
-    named_kept a b n is grows = record { name = name_within_more a b n.name grows is.name; of = type_within_more a b n.of grows is.of }
+so_far_kept a b s within grows = record { types = names_kept a b s.types within.types grows; values = names_kept a b s.values within.values grows; size = within.size }

@@ -3,6 +3,8 @@ use Rattle.std.proofs.Common.{◌≡◌, ℕ, zero, suc, ◌<◌, true, false, L
 use Rattle.std.specs.Prelude.{fold, IfSome, OnOk, Option}
 use Rattle.pv_base.specs.declared.name.Name.{Name}
 use Rattle.ir_tree.specs.declared.layout.Layout.{Layout}
+use Rattle.ir_tree.specs.declared.items.NamedType.{NamedType}
+use Rattle.ir_tree.specs.Trees.{TypeV}
 use Rattle.ir_tree.specs.Bounds.{IsLayout}
 use Rattle.ir_tree.specs.Filling.{answer_at}
 use Rattle.ir_tree.specs.Table.{Table}
@@ -72,16 +74,18 @@ pub none_laid : (named : Name → Option Layout) (table : Table) → AreLaid nam
 none_laid named table = record { few = omega arith; each = λ k lt. absurd (omega arith); bounded = none_at }
 
 -- the module of what was read
-module_is : (read : Outcome (List Item)) → (read >>= λ all. Ok ((fold with_item nothing_so_far all.0).module_so_far, all.1)) ≡ (gathered nothing_so_far read >>= λ all. Ok (all.0.module_so_far, all.1))
-module_is (Ok x) = refl
-module_is (Err f) = refl
+module _ (types : List (NamedType Name TypeV)) where
+  module_is : (read : Outcome (List Item)) → (read >>= λ all. Ok (record (fold with_item nothing_so_far all.0).module_so_far { types = types }, all.1)) ≡ (gathered nothing_so_far read >>= λ all. Ok (record all.0.module_so_far { types = types }, all.1))
+  module_is (Ok x) = refl
+  module_is (Err f) = refl
 
-pub module_gathered : (read : Outcome (List Item)) (s : SoFar) (rest : List TokenV) → gathered nothing_so_far read ≡ Ok (s, rest) → (read >>= λ all. Ok ((fold with_item nothing_so_far all.0).module_so_far, all.1)) ≡ Ok (s.module_so_far, rest)
-module_gathered read s rest h = module_is read ∙ rw h refl
+  pub module_gathered : (read : Outcome (List Item)) (s : SoFar) (rest : List TokenV) → gathered nothing_so_far read ≡ Ok (s, rest)
+      → (read >>= λ all. Ok (record (fold with_item nothing_so_far all.0).module_so_far { types = types }, all.1)) ≡ Ok (record s.module_so_far { types = types }, rest)
+  module_gathered read s rest h = module_is read ∙ rw h refl
 
-pub module_faulty : (e : ReadEnd) (read : Outcome (List Item)) → Fails e (gathered nothing_so_far read) → Fails e (read >>= λ all. Ok ((fold with_item nothing_so_far all.0).module_so_far, all.1))
-module_faulty ends.Memory read h = tt
-module_faulty (ends.Bad f) read h = module_is read ∙ rw h refl
+  pub module_faulty : (e : ReadEnd) (read : Outcome (List Item)) → Fails e (gathered nothing_so_far read) → Fails e (read >>= λ all. Ok (record (fold with_item nothing_so_far all.0).module_so_far { types = types }, all.1))
+  module_faulty ends.Memory read h = tt
+  module_faulty (ends.Bad f) read h = module_is read ∙ rw h refl
 
 -- what is said where all is well
 pub on_ok : {A E : Type 0} (P : Type 0) (r : Result A E) → P → OnOk r P

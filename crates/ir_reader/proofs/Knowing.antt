@@ -1,23 +1,23 @@
 -- The named types of a whole text, as they are found.
-use Rattle.std.proofs.Common.{◌≡◌, ℕ, ◌<◌, Bool, ◌+◌, true, false, cond, List, [], ◌∷◌, ◌++◌, Result, Ok, Err, map, take, length, get_or, Option, Some, None, slice_get, refl, sym, ap, subst, ◌∙◌, All, append_assoc, eqb-true}
-use Rattle.std.specs.Prelude.{◌&&◌, IfSome, IfOk, option_map, option_and_then}
+use Rattle.std.proofs.Common.{◌≡◌, ℕ, ◌<◌, Bool, ◌+◌, true, false, cond, List, [], ◌∷◌, ◌++◌, map, take, length, get_or, Option, Some, None, slice_get, refl, sym, ap, ◌∙◌, All, append_assoc, arith}
+use Rattle.std.specs.Prelude.{◌&&◌, fold, IfSome, option_map, option_and_then}
 use Rattle.std.specs.Map.{lookup}
 use Rattle.std.specs.Option.{option_or}
 use Rattle.std.specs.List.{AllByRecursion}
+use Rattle.std.proofs.lemmas.List.Sums.{fold_push}
 use Rattle.std.proofs.lemmas.List.{append-nil, map_push, take_more}
-use Rattle.std.proofs.lemmas.List.Elements.{recursion_from_All, All-map, All-weaker}
+use Rattle.std.proofs.lemmas.List.Elements.{recursion_from_All, All-map, All-push, All-weaker}
 use Rattle.std.proofs.lemmas.Option.{get_or_from_slice_get, slice_get_within, slice_get-get_or}
 use mathlib.Core.Path.{fun_ext}
-use lib.Pointwise.{bytes_decides}
 use Rattle.pv_base.specs.declared.name.Name.{Name}
-use Rattle.pv_base.specs.declared.name.Name.TheVariants.{Named, Numbered}
-use Rattle.pv_base.specs.declared.want.Memory.{Memory}
+use Rattle.pv_base.specs.declared.name.Name.TheVariants.{Numbered}
 use Rattle.ir_tree.specs.declared.layout.Layout.{Layout}
 use Rattle.ir_tree.specs.declared.items.NamedType.{NamedType}
 use Rattle.ir_tree.specs.Filling.{answer_at, named_types, NamedWithin, AreLayouts}
 use Rattle.ir_tree.specs.Layouts.{layout_of}
 use Rattle.ir_tree.specs.Naming.{Grows, Shows, name_at, type_at}
-use Rattle.ir_tree.specs.Table.{Table, same_name}
+use Rattle.ir_tree.specs.Shown.{shown_named}
+use Rattle.ir_tree.specs.Table.{Table, IsTable, same_name, name_among}
 use Rattle.ir_tree.specs.Trees.{TypeV, NamedV}
 use Rattle.ir_tree.proofs.Showing.{grows_then, type_within_more, name_within_more}
 use Rattle.ir_text.specs.declared.named.NamedBody.{NamedBody}
@@ -26,20 +26,15 @@ use Rattle.ir_text.specs.Operands.{is_local}
 use Rattle.ir_text.specs.Named.{body_in, body_of, known_of}
 use Rattle.ir_text.specs.Types.{Body, Known}
 use Rattle.ir_text.proofs.Later.{named_later}
-use Rattle.ir_instr.specs.Defined.{AreTypes}
+use Rattle.ir_instr.specs.Defined.{AreNames, AreTypes, number_among, with_number}
 use Rattle.ir_instr.proofs.Kept.{same_table}
+use Rattle.ir_reader.proofs.Naming.{among_later}
 use Rattle.ir_grammar.specs.Items.{named_body_at}
-use Rattle.ir_grammar.specs.NamedTypes.{says_type, definitions, unread_body, named_only, unless_faulty, laid_body, laid_types, known_by, bodies_of, known_in}
+use Rattle.ir_grammar.specs.NamedTypes as spec
+use Rattle.ir_grammar.proofs.NamedLemmas.{same_is}
+use Rattle.ir_grammar.specs.NamedTypes.{says_type, definitions, unread_body, named_only, unless_faulty, laid_body, laid_types, types_by, known_by, bodies_of, types_in, known_in}
 use Rattle.ir_reader.specs.declared.named.DefinedType.{DefinedType}
-use Rattle.ir_reader.specs.Knowing.{definition_at, read_bodies, shown_defined, IsDefined, named_type, entry_of}
-
--- ---- names
-
-pub same_is : (a b : Name) → same_name a b ≡ true → a ≡ b
-same_is (Named a) (Named b) e = ap Named ((bytes_decides a b).0 e)
-same_is (Numbered a) (Numbered b) e = ap Numbered (eqb-true a b e)
-same_is (Named a) (Numbered b) e = absurd cc
-same_is (Numbered a) (Named b) e = absurd cc
+use Rattle.ir_reader.specs.Knowing.{definition_at, read_bodies, shown_defined, IsDefined, named_type, with_type, first_types, entry_of}
 
 -- ---- definitions, one by one
 
@@ -148,7 +143,7 @@ shown_is later k of name body p q = rw (p, q) refl
 pub name_shown : (a later : Table) (k : ℕ) (name : Name) → slice_get a.names k ≡ Some name → Grows a later → name_at later k ≡ name
 name_shown a later k name known grows = named_later a later k name known grows
 
-pub all_within : (t : Table) (all : List DefinedType) → All (IsDefined t) all → All (NamedWithin t) (map named_type all)
+all_within : (t : Table) (all : List DefinedType) → All (IsDefined t) all → All (NamedWithin t) (map named_type all)
 all_within t all are = All-map (NamedWithin t) named_type all (All-weaker (IsDefined t) (λ d. NamedWithin t (named_type d)) (λ d is. record { name = is.name; of = is.laid.within }) all are)
 
 -- ---- the bodies, one by one
@@ -190,6 +185,72 @@ entry_more f all i d old new q lt so_far e =
     let last : Option NamedBody = cond (same_name q x.0) (Some x.1) None in
     rw (take_more all i d lt, map_push f (take i all) (get_or all i d)) (e ∙ ap (λ (o : Option NamedBody). option_or o last) so_far ∙ sym (lookup_push (same_name q) (map f (take i all)) x))
 
+-- ---- the types, each with the first body of its name
+
+type_names : (later : Table) (ns : List (NamedType ℕ ℕ)) → map (λ n. n.name) (named_types later ns) ≡ map (name_at later) (map (λ n. n.name) ns)
+type_names later [] = refl
+type_names later (n ∷ ns) = ap (λ (names : List Name). name_at later n.name ∷ names) (type_names later ns)
+
+-- what the types of one more name are
+pub names_more : (seen new : List ℕ) (types more : List (NamedType ℕ ℕ)) (n : NamedType ℕ ℕ) → seen ≡ map (λ t. t.name) types → number_among n.name seen ≡ false → more ≡ types ++ n ∷ [] → new ≡ with_number seen n.name → new ≡ map (λ t. t.name) more
+names_more seen new types more n is fresh e f = rw (e, map_push (λ (t : NamedType ℕ ℕ). t.name) types n, ← is) (f ∙ rw fresh refl)
+
+pub type_more : (seen : List ℕ) (types more : List (NamedType ℕ ℕ)) (n : NamedType ℕ ℕ) → seen ≡ map (λ t. t.name) types → number_among n.name seen ≡ false → more ≡ types ++ n ∷ [] → more ≡ with_type types n
+type_more seen types more n is fresh e = let h : number_among n.name (map (λ (t : NamedType ℕ ℕ). t.name) types) ≡ false = rw is at fresh in rw h e
+
+pub type_known : (seen : List ℕ) (types : List (NamedType ℕ ℕ)) (n : NamedType ℕ ℕ) → seen ≡ map (λ t. t.name) types → number_among n.name seen ≡ true → types ≡ with_type types n
+type_known seen types n is old = let h : number_among n.name (map (λ (t : NamedType ℕ ℕ). t.name) types) ≡ true = rw is at old in rw h refl
+
+-- the types of one more of a list
+pub types_more : (all : List DefinedType) (i : ℕ) (d : DefinedType) (old new : List (NamedType ℕ ℕ)) → i < length all → old ≡ first_types (take i all) → new ≡ with_type old (named_type (get_or all i d)) → new ≡ first_types (take (i + 1) all)
+types_more all i d old new lt so_far e =
+    rw (take_more all i d lt, map_push named_type (take i all) (get_or all i d)) (e ∙ ap (λ (ns : List (NamedType ℕ ℕ)). with_type ns (named_type (get_or all i d))) so_far ∙ sym (fold_push with_type [] (map named_type (take i all)) (named_type (get_or all i d))))
+
+module _ (t : Table) where
+  type_names_within : (ns : List (NamedType ℕ ℕ)) (n : NamedType ℕ ℕ) → AreNames t (map (λ u. u.name) ns) → n.name < length t.names → AreNames t (map (λ u. u.name) (with_type ns n))
+  type_names_within ns n are lt = by_test (number_among n.name (map (λ u. u.name) ns))
+    where
+      by_test : (b : Bool) → AreNames t (map (λ u. u.name) (cond b ns (ns ++ n ∷ [])))
+      by_test true = are
+      by_test false = rw (map_push (λ (u : NamedType ℕ ℕ). u.name) ns n) (All-push (λ k. k < length t.names) (map (λ u. u.name) ns) n.name are lt)
+
+  firsts_within : (ns ds : List (NamedType ℕ ℕ)) → All (NamedWithin t) ns → AllByRecursion (NamedWithin t) ds → All (NamedWithin t) (fold with_type ns ds)
+  firsts_within ns [] are rest = are
+  firsts_within ns (d ∷ ds) are rest = firsts_within (with_type ns d) ds (by_test (number_among d.name (map (λ u. u.name) ns))) rest.1
+    where
+      by_test : (b : Bool) → All (NamedWithin t) (cond b ns (ns ++ d ∷ []))
+      by_test true = are
+      by_test false = All-push (NamedWithin t) ns d are rest.0
+
+  pub types_within_table : (all : List DefinedType) → All (IsDefined t) all → All (NamedWithin t) (first_types all)
+  types_within_table all are = firsts_within [] (map named_type all) (λ i d lt. absurd (omega arith)) (recursion_from_All (NamedWithin t) (map named_type all) (all_within t all are))
+
+  module _ (later : Table) (is : IsTable t) (grows : Grows t later) where
+    one_shown : (ns : List (NamedType ℕ ℕ)) (n : NamedType ℕ ℕ) → AreNames t (map (λ u. u.name) ns) → n.name < length t.names → named_types later (with_type ns n) ≡ spec.with_type (named_types later ns) (shown_named later n)
+    one_shown ns n are lt = by_test (number_among n.name (map (λ u. u.name) ns)) (name_among (name_at later n.name) (map (λ u. u.name) (named_types later ns))) (ap (name_among (name_at later n.name)) (type_names later ns) ∙ among_later t later is grows (map (λ u. u.name) ns) n.name are lt)
+      where
+        by_test : (b c : Bool) → c ≡ b → named_types later (cond b ns (ns ++ n ∷ [])) ≡ cond c (named_types later ns) (named_types later ns ++ shown_named later n ∷ [])
+        by_test true c e = rw e refl
+        by_test false c e = rw e (map_push (shown_named later) ns n)
+
+    firsts_shown : (ns ds : List (NamedType ℕ ℕ)) → AreNames t (map (λ u. u.name) ns) → AllByRecursion (NamedWithin t) ds → named_types later (fold with_type ns ds) ≡ fold spec.with_type (named_types later ns) (named_types later ds)
+    firsts_shown ns [] are rest = refl
+    firsts_shown ns (d ∷ ds) are rest =
+        firsts_shown (with_type ns d) ds (type_names_within ns d are rest.0.name) rest.1
+        ∙ ap (λ (us : List (NamedType Name TypeV)). fold spec.with_type us (named_types later ds)) (one_shown ns d are rest.0.name)
+
+    laid_shown : (ds : List DefinedType) → AllByRecursion (IsDefined t) ds → named_types later (map named_type ds) ≡ laid_types (map (shown_defined later) ds)
+    laid_shown [] are = refl
+    laid_shown (d ∷ ds) are =
+        let one : type_at later d.laid ≡ laid_body (option_map (type_at later) d.of) = are.0.laid.from later grows in
+        rw (one, laid_shown ds are.1) refl
+
+    -- the types by number are those of the bodies
+    pub types_are : (all : List DefinedType) → All (IsDefined t) all → named_types later (first_types all) ≡ types_by (map (shown_defined later) all)
+    types_are all are =
+        firsts_shown [] (map named_type all) (λ i d lt. absurd (omega arith)) (recursion_from_All (NamedWithin t) (map named_type all) (all_within t all are))
+        ∙ ap (fold spec.with_type []) (laid_shown all (recursion_from_All (IsDefined t) all are))
+
 -- ---- all in one
 
 pick : {A B C : Type 0} (f : A → C) (g : B → C) (b : Bool) (x : A) (y : B) (xs : Option A) (ys : Option B) → (b ≡ true → f x ≡ g y) → option_map f xs ≡ option_map g ys → option_map f (cond b (Some x) xs) ≡ option_map g (cond b (Some y) ys)
@@ -208,22 +269,16 @@ module _ (t : Table) (found : List (Option Layout)) where
   pub are_types : (all : List DefinedType) (k : List (Name × NamedBody)) → All (IsDefined t) all → ((q : Name) → body_in k q ≡ lookup (same_name q) (map (entry_of t found) all)) → AreTypes t k
   are_types all k are is q = rw (is q) (types_within all (recursion_from_All (IsDefined t) all are) q)
 
-  types_are : (ds : List DefinedType) → AllByRecursion (IsDefined t) ds → named_types t (map named_type ds) ≡ laid_types (map (shown_defined t) ds)
-  types_are [] are = refl
-  types_are (d ∷ ds) are =
-      let one : type_at t d.laid ≡ laid_body (option_map (type_at t) d.of) = are.0.laid.from t (same_table t) in
-      rw (one, types_are ds are.1) refl
-
-  module _ (all : List DefinedType) (bodies : List (Name × Option TypeV)) (are : All (IsDefined t) all) (shows : (later : Table) → Grows t later → map (shown_defined later) all ≡ bodies) (laid : AreLayouts t (map named_type all) found) where
-    layout_is : (d : DefinedType) → IsDefined t d → answer_at found d.named ≡ layout_of (laid_types bodies) (NamedV (name_at t d.name))
-    layout_is d is =
-        let types : named_types t (map named_type all) ≡ laid_types bodies = types_are all (recursion_from_All (IsDefined t) all are) ∙ ap laid_types (shows t (same_table t)) in
-        laid d.named is.named.within
+  module _ (all : List DefinedType) (bodies : List (Name × Option TypeV)) (are : All (IsDefined t) all) (shows : (later : Table) → Grows t later → map (shown_defined later) all ≡ bodies) (is : IsTable t) (laid : AreLayouts t (first_types all) found) where
+    layout_is : (d : DefinedType) → IsDefined t d → answer_at found d.named ≡ layout_of (types_by bodies) (NamedV (name_at t d.name))
+    layout_is d here =
+        let types : named_types t (first_types all) ≡ types_by bodies = types_are t t is (same_table t) all are ∙ ap types_by (shows t (same_table t)) in
+        laid d.named here.named.within
         ∙ ap (λ (ns : List (NamedType Name TypeV)). layout_of ns (type_at t d.named)) types
-        ∙ ap (layout_of (laid_types bodies)) (is.named.from t (same_table t))
+        ∙ ap (layout_of (types_by bodies)) (here.named.from t (same_table t))
 
     said_of : Name → Option TypeV → Body
-    said_of q of = record { of = of; layout = layout_of (laid_types bodies) (NamedV q) }
+    said_of q of = record { of = of; layout = layout_of (types_by bodies) (NamedV q) }
 
     module _ (later : Table) (grows : Grows t later) where
       name_is : (d : DefinedType) → IsDefined t d → name_at later d.name ≡ name_at t d.name
@@ -232,7 +287,7 @@ module _ (t : Table) (found : List (Option Layout)) where
       body_is : (d : DefinedType) (q : Name) → IsDefined t d → q ≡ name_at t d.name → body_of later (entry_of t found d).1 ≡ said_of q (option_map (type_at later) d.of)
       unfolding said_of
       body_is d q is e =
-          let layout : answer_at found d.named ≡ layout_of (laid_types bodies) (NamedV q) = layout_is d is ∙ ap (λ (x : Name). layout_of (laid_types bodies) (NamedV x)) (sym e) in
+          let layout : answer_at found d.named ≡ layout_of (types_by bodies) (NamedV q) = layout_is d is ∙ ap (λ (x : Name). layout_of (types_by bodies) (NamedV x)) (sym e) in
           ap (λ (l : Option Layout). (let b : Body = record { of = option_map (type_at later) d.of; layout = l } in b)) layout
 
       known_at : (q : Name) (ds : List DefinedType) → AllByRecursion (IsDefined t) ds → option_map (body_of later) (lookup (same_name q) (map (entry_of t found) ds)) ≡ option_map (said_of q) (lookup (same_name q) (map (shown_defined later) ds))
@@ -249,33 +304,19 @@ module _ (t : Table) (found : List (Option Layout)) where
           ∙ ap (λ (bs : List (Name × Option TypeV)). option_map (said_of q) (lookup (same_name q) bs)) (shows later grows))
 
 -- what was found is what the text says
-pub known_is : (t later : Table) (found : List (Option Layout)) (all : List DefinedType) (ts : List TokenV) (names k : List (Name × NamedBody)) → ((later : Table) → known_of later names ≡ named_only (definitions ts)) → All (IsDefined t) all
-    → ((later : Table) → Grows t later → map (shown_defined later) all ≡ read_bodies (known_of later names) (definitions ts)) → AreLayouts t (map named_type all) found
-    → ((q : Name) → body_in k q ≡ lookup (same_name q) (map (entry_of t found) all)) → Grows t later → known_of later k ≡ known_in ts
-unfolding known_in
-known_is t later found all ts names k only are shows laid is grows =
-    let bodies : (later : Table) → Grows t later → map (shown_defined later) all ≡ bodies_of (definitions ts) = λ later g. shows later g ∙ ap (λ (known : Known). read_bodies known (definitions ts)) (only later) in
-    all_known t found all (bodies_of (definitions ts)) are bodies laid later grows k is
+module _ (t : Table) (found : List (Option Layout)) (all : List DefinedType) (ts : List TokenV) (names : List (Name × NamedBody)) (is : IsTable t) (only : (later : Table) → known_of later names ≡ named_only (definitions ts)) (are : All (IsDefined t) all)
+    (shows : (later : Table) → Grows t later → map (shown_defined later) all ≡ read_bodies (known_of later names) (definitions ts)) where
+  bodies_are : (later : Table) → Grows t later → map (shown_defined later) all ≡ bodies_of (definitions ts)
+  bodies_are later grows = shows later grows ∙ ap (λ (known : Known). read_bodies known (definitions ts)) (only later)
+
+  pub types_found : (types : List (NamedType ℕ ℕ)) → types ≡ first_types all → (later : Table) → Grows t later → named_types later types ≡ types_in ts
+  unfolding types_in
+  types_found types e later grows = ap (named_types later) e ∙ types_are t later is grows all are ∙ ap types_by (bodies_are later grows)
+
+  pub known_is : (k : List (Name × NamedBody)) → AreLayouts t (first_types all) found → ((q : Name) → body_in k q ≡ lookup (same_name q) (map (entry_of t found) all)) → (later : Table) → Grows t later → known_of later k ≡ known_in ts
+  unfolding known_in
+  known_is k laid said later grows = all_known t found all (bodies_of (definitions ts)) are bodies_are is laid later grows k said
 
 -- what is read of no place of a list
 abbrev pub no_type : DefinedType
 no_type = record { name = 0; of = None; laid = 0; named = 0 }
-
-pub types_fit : (t : Table) (all given : List DefinedType) (types : List (NamedType ℕ ℕ)) → given ≡ all → types ≡ map named_type given → All (IsDefined t) all → All (NamedWithin t) types
-types_fit t all given types same is are = rw (is, same) (all_within t all are)
-
-module _ (t : Table) (found : List (Option Layout)) (all given : List DefinedType) (given_is : given ≡ all) (are : All (IsDefined t) all) where
-  same_known : (k : List (Name × NamedBody)) → ((q : Name) → body_in k q ≡ lookup (same_name q) (map (entry_of t found) given)) → (q : Name) → body_in k q ≡ lookup (same_name q) (map (entry_of t found) all)
-  same_known k is q = is q ∙ ap (λ (ds : List DefinedType). lookup (same_name q) (map (entry_of t found) ds)) given_is
-
-  pub types_ok : (r : Result (List (Name × NamedBody)) Memory) → IfOk r (λ k. (q : Name) → body_in k q ≡ lookup (same_name q) (map (entry_of t found) given)) → IfOk r (AreTypes t)
-  types_ok (Err e) is = tt
-  types_ok (Ok k) is = are_types t found all k are (same_known k is)
-
-  pub known_ok : (shared : List DefinedType) (types : List (NamedType ℕ ℕ)) (ts : List TokenV) (names : List (Name × NamedBody)) (r : Result (List (Name × NamedBody)) Memory) → ((later : Table) → known_of later names ≡ named_only (definitions ts))
-      → ((later : Table) → Grows t later → map (shown_defined later) all ≡ read_bodies (known_of later names) (definitions ts)) → shared ≡ all → types ≡ map named_type shared → AreLayouts t types found
-      → IfOk r (λ k. (q : Name) → body_in k q ≡ lookup (same_name q) (map (entry_of t found) given)) → IfOk r (λ k. (later : Table) → Grows t later → known_of later k ≡ known_in ts)
-  known_ok shared types ts names (Err e) only shows same types_are laid is = tt
-  known_ok shared types ts names (Ok k) only shows same types_are laid is = λ later grows.
-      let all_laid : AreLayouts t (map named_type all) found = subst (λ (ns : List (NamedType ℕ ℕ)). AreLayouts t ns found) (types_are ∙ ap (map named_type) same) laid in
-      known_is t later found all ts names k only are shows all_laid (same_known k is) grows

@@ -1,9 +1,8 @@
 -- Items by number, and what was read of a module.
-use Rattle.std.specs.Prelude.{ℕ, ◌+◌, ◌<◌, ◌≤◌, length, map, fold, if◌then◌else◌, List, Ok, All, ⊤, codes}
+use Rattle.std.specs.Prelude.{ℕ, ◌+◌, ◌<◌, ◌≤◌, length, map, fold, if◌then◌else◌, List, [], Ok, ⊤, codes}
 use Rattle.ir_lex.specs.declared.token.Cause.TheVariants as causes
 use Rattle.ir_tree.specs.Table.{Table}
 use Rattle.ir_tree.specs.Naming.{name_at}
-use Rattle.ir_tree.specs.Filling.{NamedWithin}
 use Rattle.ir_tree.specs.Shown.{shown_named, shown_global, shown_function}
 use Rattle.ir_text.specs.Tokens.{TokenV, is_word}
 use Rattle.ir_text.specs.Reading.{Outcome, Reader, ◌>>=◌, wrong}
@@ -21,10 +20,10 @@ item_of table (item.Global g) = grammar.GlobalItem (shown_global table g.global)
 item_of table (item.Function f) = grammar.FunctionItem (shown_function table f)
 item_of table item.Passed = grammar.PassedItem
 
--- what was read, with names, types and constants in place of their numbers
+-- What was read, with names, types and constants in place of their numbers. The named types are found before.
 abbrev pub so_far_at : Table → SoFar → grammar.SoFar
 so_far_at table s = record {
-  module_so_far = record { types = map (shown_named table) s.named_types; globals = map (shown_global table) s.globals; functions = map (shown_function table) s.functions };
+  module_so_far = record { types = []; globals = map (shown_global table) s.globals; functions = map (shown_function table) s.functions };
   types = map (name_at table) s.types;
   values = map (name_at table) s.values;
   size = s.size;
@@ -32,7 +31,7 @@ so_far_at table s = record {
 
 -- the numbers in an item are of the table, and a global fits behind those of so many bytes
 abbrev pub ItemWithin : Table → ℕ → Item → Type 0
-ItemWithin table size (item.NamedType t) = NamedWithin table t
+ItemWithin table size (item.NamedType t) = t.name < length table.names
 ItemWithin table size (item.Global g) = (g.global.name < length table.names) × (size + g.bytes ≤ 4194304)
 ItemWithin table size (item.Function f) = f.name < length table.names
 ItemWithin table size item.Passed = ⊤
@@ -42,7 +41,6 @@ pub record SoFarWithin (table : Table) (s : SoFar) : Type 0 where
   pub types : AreNames table s.types
   pub values : AreNames table s.values
   pub size : s.size ≤ 4194304
-  pub named : All (NamedWithin table) s.named_types
 
 -- what was read before, and what is still read
 abbrev pub gathered : grammar.SoFar → Outcome (List grammar.Item) → Outcome grammar.SoFar

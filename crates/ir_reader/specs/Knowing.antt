@@ -1,5 +1,5 @@
 -- The named types of a whole text, by number.
-use Rattle.std.specs.Prelude.{ℕ, ◌<◌, ◌&&◌, if◌then◌else◌, length, map, drop, List, [], ◌∷◌, Option, Some, None, option_map, IfSome}
+use Rattle.std.specs.Prelude.{ℕ, ◌<◌, ◌&&◌, if◌then◌else◌, length, map, fold, drop, List, [], ◌∷◌, ◌++◌, Option, Some, None, option_map, IfSome}
 use Rattle.pv_base.specs.declared.name.Name.{Name}
 use Rattle.ir_tree.specs.declared.layout.Layout.{Layout}
 use Rattle.ir_tree.specs.declared.items.NamedType.{NamedType}
@@ -12,6 +12,7 @@ use Rattle.ir_text.specs.Tokens.{TokenV}
 use Rattle.ir_text.specs.Leaves.{spelled_name}
 use Rattle.ir_text.specs.Operands.{is_local}
 use Rattle.ir_text.specs.Types.{Known}
+use Rattle.ir_instr.specs.Defined.{number_among}
 use Rattle.ir_grammar.specs.Items.{named_body_at}
 use Rattle.ir_grammar.specs.NamedTypes.{says_type, unless_faulty, laid_body}
 use Rattle.ir_reader.specs.declared.named.DefinedType.{DefinedType}
@@ -39,6 +40,14 @@ pub record IsDefined (table : Table) (d : DefinedType) : Type 0 where
 -- the type that is laid out for it
 abbrev pub named_type : DefinedType → NamedType ℕ ℕ
 named_type d = record { name = d.name; of = d.laid }
+
+-- the types with this one, which stands last where its name is new
+abbrev pub with_type : List (NamedType ℕ ℕ) → NamedType ℕ ℕ → List (NamedType ℕ ℕ)
+with_type types t = if number_among t.name (map (λ u. u.name) types) then types else types ++ t ∷ []
+
+-- the types that are laid out, of each name the first
+abbrev pub first_types : List DefinedType → List (NamedType ℕ ℕ)
+first_types all = fold with_type [] (map named_type all)
 
 -- what is said of its name, by the layouts that were found
 abbrev pub entry_of : Table → List (Option Layout) → DefinedType → Name × NamedBody

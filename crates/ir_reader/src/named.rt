@@ -9,7 +9,7 @@ ghost use Rattle.std.specs.Option.{option_or};
 ghost use Rattle.pv_base.specs.declared.name.Name.{Name};
 ghost use Rattle.ir_lex.specs.Lexing.{TokenIn};
 ghost use Rattle.ir_tree.specs.Bounds.{IsLayout};
-ghost use Rattle.ir_tree.specs.Filling.{AreBounded};
+ghost use Rattle.ir_tree.specs.Filling.{AreBounded, NamedWithin, named_types};
 ghost use Rattle.ir_tree.specs.Table.{Table, same_name};
 ghost use Rattle.ir_tree.specs.Naming.{Grows, Shows, type_at};
 ghost use Rattle.ir_text.specs.Tokens.{tokens_of};
@@ -17,9 +17,10 @@ ghost use Rattle.ir_text.specs.Named.{body_in, known_of};
 ghost use Rattle.ir_instr.specs.Defined.{AreTypes};
 ghost use Rattle.ir_grammar.specs.Items.{named_body_at};
 ghost use Rattle.ir_grammar.specs.NamedTypes as spec;
-ghost use Rattle.ir_reader.specs.Knowing.{definition_at, read_bodies, shown_defined, IsDefined, named_type, entry_of};
+ghost use Rattle.ir_reader.specs.Knowing.{definition_at, read_bodies, shown_defined, IsDefined, named_type, with_type, first_types, entry_of};
 
 use crate::global::named_body;
+use ir_instr::defined::Defined;
 use ir_lex::token::{Token, TokenKind};
 use ir_text::cursor::Cursor;
 use ir_text::fault::ReadEnd;
@@ -182,16 +183,35 @@ fn defined_types(
     Ok(found)
 }
 
-/// The types as the layouts take them.
+/// Adds the type that is laid out for one, unless one of its name stands among those so far, whose names are these.
+fn add_type(
+    types: &mut List<NamedType>,
+    seen: &mut Defined,
+    defined: DefinedType,
+) -> Result<(), Memory>
+    requires { seen.old ≡ map (λ t. t.name) types.old }
+    ensures adds { OnOk result (types.new ≡ with_type types.old (named_type defined)) }
+    ensures names { OnOk result (seen.new ≡ map (λ t. t.name) types.new) }
+{
+    if seen.contains(defined.name) {
+        return Ok(());
+    }
+    types.push(NamedType {
+        name: defined.name,
+        of: defined.laid,
+    })?;
+    seen.push(defined.name)?;
+    Ok(())
+}
+
+/// The types as the layouts take them, of each name the first.
 fn named_types(alloc: Global, all: &[DefinedType]) -> Result<List<NamedType>, Memory>
-    ensures { IfOk result (λ types. types ≡ map named_type all.now) }
+    ensures { IfOk result (λ types. types ≡ first_types all.now) }
 {
     let mut types = List::new(alloc);
+    let mut seen = Defined::new(alloc);
     for defined in all {
-        types.push(NamedType {
-            name: defined.name,
-            of: defined.laid,
-        })?;
+        add_type(&mut types, &mut seen, *defined)?;
     }
     Ok(types)
 }
@@ -235,6 +255,13 @@ fn with_layouts(
     Ok(known)
 }
 
+/// What a text says of its named types, and the types themselves.
+#[derive(Drop)]
+pub struct TextTypes {
+    pub known: NamedTypes,
+    pub types: List<NamedType>,
+}
+
 /// Finds what a text says of its named types, in time linear in the text. Only `Memory` ends it: where there is a fault in a
 /// body, the name is known without one.
 pub fn known_in(
@@ -242,15 +269,19 @@ pub fn known_in(
     text: &[u8],
     tokens: &[Token],
     names: &mut Names,
-) -> Result<NamedTypes, Memory>
+) -> Result<TextTypes, Memory>
     requires { All (TokenIn text.now) tokens.now }
-    ensures known { IfOk result (λ k. (later : Table) → Grows names.new later → known_of later k ≡ spec.known_in (tokens_of text.now tokens.now)) }
-    ensures types { IfOk result (AreTypes names.new) }
+    ensures known { IfOk result (λ k. (later : Table) → Grows names.new later → known_of later k.known ≡ spec.known_in (tokens_of text.now tokens.now)) }
+    ensures types { IfOk result (λ k. (later : Table) → Grows names.new later → named_types later k.types ≡ spec.types_in (tokens_of text.now tokens.now)) }
+    ensures bodies { IfOk result (λ k. AreTypes names.new k.known) }
+    ensures within { IfOk result (λ k. All (NamedWithin names.new) k.types) }
     ensures grows { Grows names.old names.new }
 {
     let named = names_only(alloc, text, tokens)?;
     let all = defined_types(alloc, text, tokens, names, &named)?;
     let types = named_types(alloc, all.as_slice())?;
+    names.is_table();
     let layouts = Layouts::new(alloc, names, types.as_slice())?;
-    with_layouts(alloc, names, &layouts, all.as_slice())
+    let known = with_layouts(alloc, names, &layouts, all.as_slice())?;
+    Ok(TextTypes { known, types })
 }

@@ -3,7 +3,6 @@
 ghost use Rattle.std.specs.Prelude.{◌≡◌, ◌<◌, ◌≤◌, ◌+◌, [], length, map, IfOk, OnOk};
 ghost use Rattle.ir_tree.specs.Table.{Table};
 ghost use Rattle.ir_tree.specs.Naming.{Grows};
-ghost use Rattle.ir_tree.specs.Filling.{NamedWithin};
 ghost use Rattle.ir_tree.specs.Shown.{shown_named, shown_global, shown_function};
 ghost use Rattle.ir_grammar.specs.Modules as grammar;
 ghost use Rattle.ir_reader.specs.Gathered.{item_of, so_far_at, ItemWithin, SoFarWithin};
@@ -26,10 +25,9 @@ pub enum Item {
     Passed,
 }
 
-/// What was read of a module: its items, in text order, and what later items are held against.
+/// What was read of a module: its globals and functions, in text order, and what later items are held against.
 #[derive(Drop)]
 pub struct SoFar {
-    pub named_types: List<NamedType>,
     pub globals: List<Global>,
     pub functions: List<Function>,
     /// The names of its named types.
@@ -43,10 +41,9 @@ pub struct SoFar {
 impl SoFar {
     /// Before the first item.
     pub fn new(alloc: Allocator) -> SoFar
-        ensures { result ≡ record { named_types = []; globals = []; functions = []; types = []; values = []; size = 0 } }
+        ensures { result ≡ record { globals = []; functions = []; types = []; values = []; size = 0 } }
     {
         SoFar {
-            named_types: List::new(alloc),
             globals: List::new(alloc),
             functions: List::new(alloc),
             types: Defined::new(alloc),
@@ -57,12 +54,11 @@ impl SoFar {
 
     fn add_type(&mut self, names: &Names, named: NamedType) -> Result<(), Memory>
         requires so_far { SoFarWithin names.now self.old }
-        requires within { NamedWithin names.now named }
+        requires name { named.name < length names.now.names }
         ensures adds { OnOk result ((later : Table) → Grows names.now later → so_far_at later self.new ≡ grammar.with_item (so_far_at later self.old) (grammar.TypeItem (shown_named later named))) }
         ensures within { OnOk result (SoFarWithin names.now self.new) }
     {
         names.is_table();
-        self.named_types.push(named)?;
         self.types.push(named.name)?;
         Ok(())
     }

@@ -89,6 +89,11 @@ fn reads_items_in_any_order(rt: HostRuntime) -> Result<(), Fail> {
         ("%T = type { %U }\n%U = type <{ i8, ptr }>\n", "2 0 0"),
         ("%T = type { %T }\n", "1 0 0"),
         (
+            "!0 = !{ %T = type { i8 } }\n@a = global %T zeroinitializer\n",
+            "1 1 0",
+        ),
+        ("%T = type { i8 }\n!0 = !{ %T = type { i64 } }\n", "1 0 0"),
+        (
             "@a = private constant [2 x i8] c\"x\\00\", align 1\n@b = external global i32 7",
             "0 2 0",
         ),

@@ -1,6 +1,11 @@
 //! Whole texts.
-ghost use Rattle.std.specs.Prelude.{◌≡◌, ◌<◌, ◌^◌, length, List, Err};
+ghost use Rattle.std.specs.Prelude.{◌≡◌, ◌<◌, ◌^◌, length, All, List, Ok, Err, IfOk};
+ghost use Rattle.pv_base.specs.declared.name.Name.{Name};
+ghost use Rattle.ir_tree.specs.declared.items.NamedType.{NamedType};
 ghost use Rattle.ir_tree.specs.Table.{Table};
+ghost use Rattle.ir_tree.specs.Trees.{TypeV};
+ghost use Rattle.ir_tree.specs.Filling.{NamedWithin, named_types};
+ghost use Rattle.ir_tree.specs.Staying.{StaysSame};
 ghost use Rattle.ir_tree.specs.Naming.{Grows};
 ghost use Rattle.ir_text.specs.Tokens.{TokenV};
 ghost use Rattle.ir_text.specs.Reading.{Outcome, Reads};
@@ -12,13 +17,12 @@ ghost use Rattle.ir_grammar.specs.Texts.{last_line, end_of, settled, module_at, 
 ghost use Rattle.ir_reader.specs.Answering.{IsReading};
 
 use crate::item::read_items;
-use crate::named::known_in;
+use crate::named::{TextTypes, known_in};
 use crate::records::without_records;
 use ir_lex::scan::tokens;
 use ir_lex::token::{Cause, ReadError};
 use ir_text::cursor::Cursor;
 use ir_text::fault::{Fault, ReadEnd};
-use ir_text::named::NamedTypes;
 use ir_tree::table::Names;
 use ir_tree::whole::Module;
 use pv_base::want::Memory;
@@ -72,7 +76,8 @@ fn settle(
     read: Result<Module, ReadEnd>,
 ) -> Result<Module, TextEnd>
     requires { length text.now < 2 ^ 32 }
-    ensures { (rest : List TokenV) (outcome : Outcome ModuleV) → Reads shown_module rest read outcome → IsReading result (settled (last_line text.now) fault outcome) }
+    ensures reading { (rest : List TokenV) (outcome : Outcome ModuleV) → Reads shown_module rest read outcome → IsReading result (settled (last_line text.now) fault outcome) }
+    ensures kept { IfOk result (λ m. read ≡ Ok m) }
 {
     match read {
         Err(ReadEnd::Memory) => Err(TextEnd::Memory),
@@ -85,20 +90,18 @@ fn settle(
     }
 }
 
-/// Reads the module of all items, among these named types of the whole text.
-fn module_of(
-    cursor: &mut Cursor<'_>,
-    mut names: Names,
-    known: &NamedTypes,
-) -> Result<Module, ReadEnd>
-    requires { AreTypes names known.now }
-    ensures { (all : Known) → ((later : Table) → Grows names later → known_of later known.now ≡ all) → Reads shown_module cursor.new result (module_at all cursor.old) }
+/// Reads the module of all items, among the named types of the whole text.
+fn module_of(cursor: &mut Cursor<'_>, mut names: Names, named: TextTypes) -> Result<Module, ReadEnd>
+    requires bodies { AreTypes names named.known }
+    requires within { All (NamedWithin names) named.types }
+    ensures reads { (types : List (NamedType Name TypeV)) (known : Known) → ((later : Table) → Grows names later → named_types later named.types ≡ types) → ((later : Table) → Grows names later → known_of later named.known ≡ known) → Reads shown_module cursor.new result (module_at types known cursor.old) }
+    ensures stays { (types : List (NamedType Name TypeV)) (known : Known) → ((later : Table) → Grows names later → named_types later named.types ≡ types) → ((later : Table) → Grows names later → known_of later named.known ≡ known) → IfOk result StaysSame }
 {
-    let read = read_items(cursor, &mut names, known)?;
+    let read = read_items(cursor, &mut names, &named.known)?;
     Ok(Module::new(
         cursor.alloc(),
         names,
-        read.named_types,
+        named.types,
         read.globals,
         read.functions,
     )?)
@@ -108,14 +111,15 @@ fn module_of(
 /// of least number. It takes time linear in the text but for looking names up.
 pub fn read_module(alloc: Global, text: &[u8]) -> Result<Module, TextEnd>
     requires { length text.now < 2 ^ 32 }
-    ensures { IsReading result (read_of text.now) }
+    ensures reading { IsReading result (read_of text.now) }
+    ensures stays { IfOk result StaysSame }
 {
     let lexed = tokens(alloc, text)?;
     let kept = without_records(alloc, text, lexed.tokens.as_slice())?;
     let left = kept.as_slice();
     let mut names = Names::new(alloc);
-    let known = known_in(alloc, text, left, &mut names)?;
+    let named = known_in(alloc, text, left, &mut names)?;
     let mut cursor = Cursor::new(alloc, text, left);
-    let read = module_of(&mut cursor, names, &known);
+    let read = module_of(&mut cursor, names, named);
     settle(text, lexed.fault, read)
 }
