@@ -35,7 +35,7 @@ ret_zero =
     at 1 kind.Word (codes "define") ∷ at 1 kind.Word (codes "i32") ∷ at 1 kind.GlobalName (codes "@main") ∷ at 1 kind.Punct (codes "(") ∷ at 1 kind.Punct (codes ")") ∷ at 1 kind.Punct (codes "{")
     ∷ at 2 kind.Word (codes "ret") ∷ at 2 kind.Word (codes "i32") ∷ at 2 kind.Integer (codes "0") ∷ at 3 kind.Punct (codes "}") ∷ []
 
-reads_ret_zero : module_at [] no_types ret_zero ≡ Ok (
+reads_ret_zero : module_at [] (Ok (tt, [])) no_types ret_zero ≡ Ok (
   record {
     types = [];
     globals = [];
@@ -59,7 +59,7 @@ two_labels =
     at 1 kind.Word (codes "define") ∷ at 1 kind.Word (codes "void") ∷ at 1 kind.GlobalName (codes "@f") ∷ at 1 kind.Punct (codes "(") ∷ at 1 kind.Punct (codes ")") ∷ at 1 kind.Punct (codes "{")
     ∷ at 2 kind.Label (codes "a:") ∷ at 3 kind.Word (codes "unreachable") ∷ at 4 kind.Label (codes "a:") ∷ at 5 kind.Word (codes "unreachable") ∷ at 6 kind.Punct (codes "}") ∷ []
 
-reads_two_labels : module_at [] no_types two_labels ≡ Err (At 4 causes.Duplicate)
+reads_two_labels : module_at [] (Ok (tt, [])) no_types two_labels ≡ Err (At 4 causes.Duplicate)
 unfolding no_types at two_labels is_digit name_of number_after among is_refused blamed integer_in word_constant constant_at constant_to constant_rule may_pass passed_at is_int_word stops_at token_by next_is repeated_to repeated_under int_type word_type effect_at marked_call meaning_of entries_to worded_item_at
 reads_two_labels = refl
 
@@ -69,10 +69,10 @@ next_label label =
     at 1 kind.Word (codes "define") ∷ at 1 kind.Word (codes "void") ∷ at 1 kind.GlobalName (codes "@f") ∷ at 1 kind.Punct (codes "(") ∷ at 1 kind.Word (codes "i32") ∷ at 1 kind.Punct (codes ")") ∷ at 1 kind.Punct (codes "{")
     ∷ at 2 kind.Word (codes "unreachable") ∷ at 3 kind.Label label ∷ at 4 kind.Word (codes "unreachable") ∷ []
 
-reads_next_label : module_at [] no_types (next_label (codes "2:")) ≡ Err Ended
+reads_next_label : module_at [] (Ok (tt, [])) no_types (next_label (codes "2:")) ≡ Err Ended
 unfolding no_types at next_label is_digit name_of number_after among is_refused blamed integer_in word_constant constant_at constant_to constant_rule may_pass passed_at is_int_word stops_at token_by next_is repeated_to repeated_under int_type word_type effect_at marked_call meaning_of entries_to worded_item_at
 reads_next_label = refl
 
-reads_other_label : module_at [] no_types (next_label (codes "1:")) ≡ Err (At 3 causes.Name)
+reads_other_label : module_at [] (Ok (tt, [])) no_types (next_label (codes "1:")) ≡ Err (At 3 causes.Name)
 unfolding no_types at next_label is_digit name_of number_after among is_refused blamed integer_in word_constant constant_at constant_to constant_rule may_pass passed_at is_int_word stops_at token_by next_is repeated_to repeated_under int_type word_type effect_at marked_call meaning_of entries_to worded_item_at
 reads_other_label = refl

@@ -7,7 +7,7 @@ use Rattle.ir_tree.specs.Layouts.{layout_of}
 use Rattle.ir_tree.specs.Table.{same_name, name_among}
 use Rattle.ir_tree.specs.Trees.{TypeV, StructV, NamedV, NoneV}
 use Rattle.ir_text.specs.Tokens.{TokenV, is_mark, is_word}
-use Rattle.ir_text.specs.Reading.{Outcome}
+use Rattle.ir_text.specs.Reading.{Outcome, ◌>>=◌}
 use Rattle.ir_text.specs.Leaves.{spelled_name}
 use Rattle.ir_text.specs.Operands.{is_local}
 use Rattle.ir_text.specs.Types.{Body, Known}
@@ -62,6 +62,16 @@ known_by bodies name = option_map (λ of. record { of = of; layout = layout_of (
 -- the named types that a text with these tokens defines, wherever `%name = type` stands
 unfoldable pub types_in : List TokenV → List (NamedType Name TypeV)
 types_in ts = types_by (bodies_of (definitions ts))
+
+-- The bodies of definitions, one after the other. A definition counts wherever it stands, also in what is passed over, and so
+-- does a fault in its body.
+unfoldable pub bodies_read : Known → List (Name × List TokenV) → Outcome (Unit {0})
+bodies_read known [] = Ok (tt, [])
+bodies_read known (d ∷ ds) = named_body_at known d.1 >>= λ of. bodies_read known ds
+
+-- the bodies of all definitions of a text with these tokens
+unfoldable pub bodies_in : List TokenV → Outcome (Unit {0})
+bodies_in ts = bodies_read (named_only (definitions ts)) (definitions ts)
 
 -- what a text with these tokens says of its named types
 unfoldable pub known_in : List TokenV → Known

@@ -14,7 +14,7 @@ use Rattle.ir_text.specs.Passed.{is_any_word}
 use Rattle.ir_text.specs.Types.{Known}
 use Rattle.ir_grammar.specs.Modules.{ModuleV, nothing_so_far, with_item}
 use Rattle.ir_grammar.specs.Items.{items_at}
-use Rattle.ir_grammar.specs.NamedTypes.{types_in, known_in}
+use Rattle.ir_grammar.specs.NamedTypes.{types_in, bodies_in, known_in}
 
 -- ---- lines that are passed over
 
@@ -62,9 +62,12 @@ settled last fault (Ok x) = unless_fault fault x.0
 settled last fault (Err (At line cause)) = Err (record { line = line; cause = cause })
 settled last fault (Err Ended) = Err (end_of last fault)
 
--- the module of these named types and of all items
-abbrev pub module_at : List (NamedType Name TypeV) → Known → Reader ModuleV
-module_at types known ts = items_at known ts >>= λ all. Ok (record (fold with_item nothing_so_far all.0).module_so_far { types = types }, all.1)
+-- the module of these named types, whose bodies are read so, and of all items, which are read first
+abbrev pub module_at : List (NamedType Name TypeV) → Outcome (Unit {0}) → Known → Reader ModuleV
+module_at types bodies known ts = do
+  all ← items_at known ts
+  sound ← bodies
+  Ok (record (fold with_item nothing_so_far all.0).module_so_far { types = types }, all.1)
 
 -- the tokens that are read
 unfoldable pub read_tokens : List ℕ → List TokenV
@@ -73,4 +76,6 @@ read_tokens text = tokens_of text (without_records text (lexed text).tokens)
 -- The module of a text, or the line and the cause of its first fault. The named types of the whole text are its types, and
 -- are known at each place of it.
 unfoldable pub read_of : List ℕ → Result ModuleV ReadError
-read_of text = settled (last_line text) (lexed text).fault (module_at (types_in (read_tokens text)) (known_in (read_tokens text)) (read_tokens text))
+read_of text =
+    settled (last_line text) (lexed text).fault
+    (module_at (types_in (read_tokens text)) (bodies_in (read_tokens text)) (known_in (read_tokens text)) (read_tokens text))

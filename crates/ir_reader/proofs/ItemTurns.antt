@@ -1,6 +1,6 @@
 -- The turns of the loop over items.
 use Rattle.std.proofs.Common.{◌≡◌, ℕ, zero, suc, ◌<◌, true, false, List, [], ◌∷◌, length, Result, Ok, Err, arith, refl, sym, ◌∙◌}
-use Rattle.std.specs.Prelude.{fold, IfSome, OnOk, Option}
+use Rattle.std.specs.Prelude.{fold, IfSome, OnOk, Option, Some, None}
 use Rattle.pv_base.specs.declared.name.Name.{Name}
 use Rattle.ir_tree.specs.declared.layout.Layout.{Layout}
 use Rattle.ir_tree.specs.declared.items.NamedType.{NamedType}
@@ -8,15 +8,17 @@ use Rattle.ir_tree.specs.Trees.{TypeV}
 use Rattle.ir_tree.specs.Bounds.{IsLayout}
 use Rattle.ir_tree.specs.Filling.{answer_at}
 use Rattle.ir_tree.specs.Table.{Table}
+use Rattle.ir_text.specs.declared.fault.Fault.{Fault}
 use Rattle.ir_text.specs.declared.fault.ReadEnd.{ReadEnd}
 use Rattle.ir_text.specs.declared.fault.ReadEnd.TheVariants as ends
 use Rattle.ir_text.specs.MemoryTypes.{AreLaid}
 use Rattle.ir_text.specs.Tokens.{TokenV}
 use Rattle.ir_text.specs.Reading.{Outcome, Reader, ◌>>=◌, next_is, Fails}
 use Rattle.ir_text.specs.Repeated.{repeated_to, repeated_under}
-use Rattle.ir_grammar.specs.Modules.{Item, SoFar, nothing_so_far, with_item}
+use Rattle.ir_grammar.specs.Modules.{ModuleV, Item, SoFar, nothing_so_far, with_item}
 use Rattle.ir_grammar.specs.Items.{any_token}
 use Rattle.ir_reader.specs.Gathered.{gathered, with_next}
+use Rattle.ir_reader.specs.Knowing.{fault_in}
 
 one_more : (s : SoFar) (x : Item) (read : Outcome (List Item)) → gathered s (read >>= λ others. Ok (x ∷ others.0, others.1)) ≡ gathered (with_item s x) read
 one_more s x (Ok y) = refl
@@ -73,17 +75,37 @@ none_at (suc k) = tt
 pub none_laid : (named : Name → Option Layout) (table : Table) → AreLaid named table []
 none_laid named table = record { few = omega arith; each = λ k lt. absurd (omega arith); bounded = none_at }
 
--- the module of what was read
-module _ (types : List (NamedType Name TypeV)) where
-  module_is : (read : Outcome (List Item)) → (read >>= λ all. Ok (record (fold with_item nothing_so_far all.0).module_so_far { types = types }, all.1)) ≡ (gathered nothing_so_far read >>= λ all. Ok (record all.0.module_so_far { types = types }, all.1))
+-- the module of what was read, behind its bodies
+module _ (types : List (NamedType Name TypeV)) (bodies : Outcome (Unit {0})) where
+  abbrev of_all : Outcome (List Item) → Outcome ModuleV
+  of_all read = read >>= λ all. bodies >>= λ sound. Ok (record (fold with_item nothing_so_far all.0).module_so_far { types = types }, all.1)
+
+  module_is : (read : Outcome (List Item)) → of_all read ≡ (gathered nothing_so_far read >>= λ all. bodies >>= λ sound. Ok (record all.0.module_so_far { types = types }, all.1))
   module_is (Ok x) = refl
   module_is (Err f) = refl
 
-  pub module_gathered : (read : Outcome (List Item)) (s : SoFar) (rest : List TokenV) → gathered nothing_so_far read ≡ Ok (s, rest)
-      → (read >>= λ all. Ok (record (fold with_item nothing_so_far all.0).module_so_far { types = types }, all.1)) ≡ Ok (record s.module_so_far { types = types }, rest)
-  module_gathered read s rest h = module_is read ∙ rw h refl
+  sound_then : (read : Outcome ModuleV) → fault_in bodies ≡ None → (bodies >>= λ sound. read) ≡ read
+  sound_then read none = by_bodies bodies none
+    where
+      by_bodies : (b : Outcome (Unit {0})) → fault_in b ≡ None → (b >>= λ sound. read) ≡ read
+      by_bodies (Ok x) e = refl
+      by_bodies (Err f) e = absurd cc
 
-  pub module_faulty : (e : ReadEnd) (read : Outcome (List Item)) → Fails e (gathered nothing_so_far read) → Fails e (read >>= λ all. Ok (record (fold with_item nothing_so_far all.0).module_so_far { types = types }, all.1))
+  faulty_then : (f : Fault) (read : Outcome ModuleV) → fault_in bodies ≡ Some f → (bodies >>= λ sound. read) ≡ Err f
+  faulty_then f read some = by_bodies bodies some
+    where
+      by_bodies : (b : Outcome (Unit {0})) → fault_in b ≡ Some f → (b >>= λ sound. read) ≡ Err f
+      by_bodies (Ok x) e = absurd cc
+      by_bodies (Err g) e = cc
+
+  pub module_gathered : (read : Outcome (List Item)) (s : SoFar) (rest : List TokenV) → fault_in bodies ≡ None → gathered nothing_so_far read ≡ Ok (s, rest)
+      → of_all read ≡ Ok (record s.module_so_far { types = types }, rest)
+  module_gathered read s rest none h = module_is read ∙ rw h (sound_then (Ok (record s.module_so_far { types = types }, rest)) none)
+
+  pub module_unsound : (f : Fault) (read : Outcome (List Item)) (s : SoFar) (rest : List TokenV) → fault_in bodies ≡ Some f → gathered nothing_so_far read ≡ Ok (s, rest) → of_all read ≡ Err f
+  module_unsound f read s rest some h = module_is read ∙ rw h (faulty_then f (Ok (record s.module_so_far { types = types }, rest)) some)
+
+  pub module_faulty : (e : ReadEnd) (read : Outcome (List Item)) → Fails e (gathered nothing_so_far read) → Fails e (of_all read)
   module_faulty ends.Memory read h = tt
   module_faulty (ends.Bad f) read h = module_is read ∙ rw h refl
 

@@ -1,6 +1,6 @@
 -- The named types of a whole text, as they are found.
-use Rattle.std.proofs.Common.{◌≡◌, ℕ, ◌<◌, Bool, ◌+◌, true, false, cond, List, [], ◌∷◌, ◌++◌, map, take, length, get_or, Option, Some, None, slice_get, refl, sym, ap, ◌∙◌, All, append_assoc, arith}
-use Rattle.std.specs.Prelude.{◌&&◌, fold, IfSome, option_map, option_and_then}
+use Rattle.std.proofs.Common.{◌≡◌, ℕ, ◌<◌, Bool, ◌+◌, true, false, cond, List, [], ◌∷◌, ◌++◌, Result, Ok, Err, map, take, length, get_or, Option, Some, None, slice_get, refl, sym, ap, subst, ◌∙◌, All, append_assoc, arith}
+use Rattle.std.specs.Prelude.{◌&&◌, fold, IfSome, IfOk, option_map, option_and_then}
 use Rattle.std.specs.Map.{lookup}
 use Rattle.std.specs.Option.{option_or}
 use Rattle.std.specs.List.{AllByRecursion}
@@ -11,6 +11,7 @@ use Rattle.std.proofs.lemmas.Option.{get_or_from_slice_get, slice_get_within, sl
 use mathlib.Core.Path.{fun_ext}
 use Rattle.pv_base.specs.declared.name.Name.{Name}
 use Rattle.pv_base.specs.declared.name.Name.TheVariants.{Numbered}
+use Rattle.pv_base.specs.declared.want.Memory.{Memory}
 use Rattle.ir_tree.specs.declared.layout.Layout.{Layout}
 use Rattle.ir_tree.specs.declared.items.NamedType.{NamedType}
 use Rattle.ir_tree.specs.Filling.{answer_at, named_types, NamedWithin, AreLayouts}
@@ -20,9 +21,11 @@ use Rattle.ir_tree.specs.Shown.{shown_named}
 use Rattle.ir_tree.specs.Table.{Table, IsTable, same_name, name_among}
 use Rattle.ir_tree.specs.Trees.{TypeV, NamedV}
 use Rattle.ir_tree.proofs.Showing.{grows_then, type_within_more, name_within_more}
+use Rattle.ir_text.specs.declared.fault.Fault.{Fault}
 use Rattle.ir_text.specs.declared.named.NamedBody.{NamedBody}
 use Rattle.ir_text.specs.Tokens.{TokenV}
 use Rattle.ir_text.specs.Operands.{is_local}
+use Rattle.ir_text.specs.Reading.{Outcome, ◌>>=◌}
 use Rattle.ir_text.specs.Named.{body_in, body_of, known_of}
 use Rattle.ir_text.specs.Types.{Body, Known}
 use Rattle.ir_text.proofs.Later.{named_later}
@@ -32,9 +35,9 @@ use Rattle.ir_reader.proofs.Naming.{among_later}
 use Rattle.ir_grammar.specs.Items.{named_body_at}
 use Rattle.ir_grammar.specs.NamedTypes as spec
 use Rattle.ir_grammar.proofs.NamedLemmas.{same_is}
-use Rattle.ir_grammar.specs.NamedTypes.{says_type, definitions, unread_body, named_only, unless_faulty, laid_body, laid_types, types_by, known_by, bodies_of, types_in, known_in}
+use Rattle.ir_grammar.specs.NamedTypes.{says_type, definitions, unread_body, named_only, unless_faulty, laid_body, laid_types, types_by, known_by, bodies_of, bodies_read, types_in, known_in}
 use Rattle.ir_reader.specs.declared.named.DefinedType.{DefinedType}
-use Rattle.ir_reader.specs.Knowing.{definition_at, read_bodies, shown_defined, IsDefined, named_type, with_type, first_types, entry_of}
+use Rattle.ir_reader.specs.Knowing.{definition_at, read_bodies, fault_in, shown_defined, IsDefined, named_type, with_type, first_types, entry_of}
 
 -- ---- definitions, one by one
 
@@ -320,3 +323,38 @@ module _ (t : Table) (found : List (Option Layout)) (all : List DefinedType) (ts
 -- what is read of no place of a list
 abbrev pub no_type : DefinedType
 no_type = record { name = 0; of = None; laid = 0; named = 0 }
+
+-- ---- the first fault in a body
+
+read_next : (x : Outcome TypeV) (v : TypeV × List TokenV) (rest : Outcome (Unit {0})) → x ≡ Ok v → (x >>= λ of. rest) ≡ rest
+read_next x v rest is = rw is refl
+
+read_ends : (x : Outcome TypeV) (f : Fault) (rest : Outcome (Unit {0})) → x ≡ Err f → (x >>= λ of. rest) ≡ Err f
+read_ends x f rest is = rw is refl
+
+pub sound_here : (known : Known) (ts rest : List TokenV) (t : TokenV) (name : Name) (us : List TokenV) (v : TypeV × List TokenV) → ts ≡ t ∷ rest → definition_at ts ≡ Some (name, us)
+    → named_body_at known us ≡ Ok v → bodies_read known (definitions rest) ≡ bodies_read known (definitions ts)
+unfolding bodies_read
+sound_here known ts rest t name us v is at read =
+    let all : definitions ts ≡ (name, us) ∷ definitions rest = rw is (defined_here t rest (name, us) (rw is at at)) in
+    rw all (sym (read_next (named_body_at known us) v (bodies_read known (definitions rest)) read))
+
+pub faulty_here : (known : Known) (ts rest : List TokenV) (t : TokenV) (name : Name) (us : List TokenV) (f : Fault) → ts ≡ t ∷ rest → definition_at ts ≡ Some (name, us)
+    → named_body_at known us ≡ Err f → fault_in (bodies_read known (definitions ts)) ≡ Some f
+unfolding bodies_read
+faulty_here known ts rest t name us f is at read =
+    let all : definitions ts ≡ (name, us) ∷ definitions rest = rw is (defined_here t rest (name, us) (rw is at at)) in
+    rw (all, read_ends (named_body_at known us) f (bodies_read known (definitions rest)) read) refl
+
+pub sound_later_on : (known : Known) (ts rest : List TokenV) (t : TokenV) → ts ≡ t ∷ rest → definition_at ts ≡ None → bodies_read known (definitions rest) ≡ bodies_read known (definitions ts)
+sound_later_on known ts rest t is e =
+    let all : definitions ts ≡ definitions rest = rw is (defined_later_on t rest (rw is at e)) in
+    rw all refl
+
+pub all_sound : (known : Known) (ts : List TokenV) → ts ≡ [] → fault_in (bodies_read known (definitions ts)) ≡ None
+unfolding definitions bodies_read
+all_sound known ts is = rw is refl
+
+-- a body as it is read among all that is known
+pub read_among : (known all : Known) (us : List TokenV) (r : Outcome TypeV) → known ≡ all → named_body_at known us ≡ r → named_body_at all us ≡ r
+read_among known all us r same is = rw same at is

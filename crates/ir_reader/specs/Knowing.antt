@@ -1,5 +1,5 @@
 -- The named types of a whole text, by number.
-use Rattle.std.specs.Prelude.{ℕ, ◌<◌, ◌&&◌, if◌then◌else◌, length, map, fold, drop, List, [], ◌∷◌, ◌++◌, Option, Some, None, option_map, IfSome}
+use Rattle.std.specs.Prelude.{ℕ, ◌<◌, ◌&&◌, if◌then◌else◌, length, map, fold, drop, List, [], ◌∷◌, ◌++◌, Option, Some, None, option_map, IfSome, Ok, Err}
 use Rattle.pv_base.specs.declared.name.Name.{Name}
 use Rattle.ir_tree.specs.declared.layout.Layout.{Layout}
 use Rattle.ir_tree.specs.declared.items.NamedType.{NamedType}
@@ -7,9 +7,11 @@ use Rattle.ir_tree.specs.Filling.{answer_at}
 use Rattle.ir_tree.specs.Naming.{Shows, name_at, type_at}
 use Rattle.ir_tree.specs.Table.{Table}
 use Rattle.ir_tree.specs.Trees.{TypeV, NamedV}
+use Rattle.ir_text.specs.declared.fault.Fault.{Fault}
 use Rattle.ir_text.specs.declared.named.NamedBody.{NamedBody}
 use Rattle.ir_text.specs.Tokens.{TokenV}
 use Rattle.ir_text.specs.Leaves.{spelled_name}
+use Rattle.ir_text.specs.Reading.{Outcome}
 use Rattle.ir_text.specs.Operands.{is_local}
 use Rattle.ir_text.specs.Types.{Known}
 use Rattle.ir_instr.specs.Defined.{number_among}
@@ -25,6 +27,11 @@ definition_at (t ∷ rest) = if is_local t && says_type rest then Some (spelled_
 -- each name with its body, where these names are known types
 abbrev pub read_bodies : Known → List (Name × List TokenV) → List (Name × Option TypeV)
 read_bodies known all = map (λ d. (d.0, unless_faulty (named_body_at known d.1))) all
+
+-- the fault with which a reading ended, if it did
+abbrev pub fault_in : Outcome (Unit {0}) → Option Fault
+fault_in (Ok x) = None
+fault_in (Err fault) = Some fault
 
 -- a type that the text defines, with its name and its body in place of their numbers
 abbrev pub shown_defined : Table → DefinedType → Name × Option TypeV

@@ -14,16 +14,17 @@ ghost use Rattle.ir_tree.specs.Table.{Table, same_name};
 ghost use Rattle.ir_tree.specs.Naming.{Grows, Shows, type_at};
 ghost use Rattle.ir_text.specs.Tokens.{tokens_of};
 ghost use Rattle.ir_text.specs.Named.{body_in, known_of};
+ghost use Rattle.ir_text.specs.Types.{Known};
 ghost use Rattle.ir_instr.specs.Defined.{AreTypes};
 ghost use Rattle.ir_grammar.specs.Items.{named_body_at};
 ghost use Rattle.ir_grammar.specs.NamedTypes as spec;
-ghost use Rattle.ir_reader.specs.Knowing.{definition_at, read_bodies, shown_defined, IsDefined, named_type, with_type, first_types, entry_of};
+ghost use Rattle.ir_reader.specs.Knowing.{definition_at, read_bodies, fault_in, shown_defined, IsDefined, named_type, with_type, first_types, entry_of};
 
 use crate::global::named_body;
 use ir_instr::defined::Defined;
 use ir_lex::token::{Token, TokenKind};
 use ir_text::cursor::Cursor;
-use ir_text::fault::ReadEnd;
+use ir_text::fault::{Fault, ReadEnd};
 use ir_text::leaves::{is_mark, is_word};
 use ir_text::named::{NamedBody, NamedTypes};
 use ir_tree::items::NamedType;
@@ -255,11 +256,39 @@ fn with_layouts(
     Ok(known)
 }
 
-/// What a text says of its named types, and the types themselves.
+/// The first fault in the body of a type that a text defines.
+fn body_fault(
+    alloc: Global,
+    text: &[u8],
+    tokens: &[Token],
+    known: &NamedTypes,
+) -> Result<Option<Fault>, Memory>
+    requires { All (TokenIn text.now) tokens.now }
+    ensures { (all : Known) → ((later : Table) → known_of later known.now ≡ all) → IfOk result (λ fault. fault ≡ fault_in (spec.bodies_read all (spec.definitions (tokens_of text.now tokens.now)))) }
+{
+    let mut names = Names::new(alloc);
+    let mut rest = tokens;
+    while let [_, tail @ ..] = rest {
+        let mut cursor = Cursor::new(alloc, text, rest);
+        match defined_name(&mut cursor)? {
+            Some(_) => match named_body(&mut cursor, &mut names, known) {
+                Ok(_) => {}
+                Err(ReadEnd::Bad(fault)) => return Ok(Some(fault)),
+                Err(ReadEnd::Memory) => return Err(Memory),
+            },
+            None => {}
+        }
+        rest = tail;
+    }
+    Ok(None)
+}
+
+/// What a text says of its named types, the types themselves, and the first fault in a body.
 #[derive(Drop)]
 pub struct TextTypes {
     pub known: NamedTypes,
     pub types: List<NamedType>,
+    pub fault: Option<Fault>,
 }
 
 /// Finds what a text says of its named types, in time linear in the text. Only `Memory` ends it: where there is a fault in a
@@ -273,6 +302,7 @@ pub fn known_in(
     requires { All (TokenIn text.now) tokens.now }
     ensures known { IfOk result (λ k. (later : Table) → Grows names.new later → known_of later k.known ≡ spec.known_in (tokens_of text.now tokens.now)) }
     ensures types { IfOk result (λ k. (later : Table) → Grows names.new later → named_types later k.types ≡ spec.types_in (tokens_of text.now tokens.now)) }
+    ensures fault { IfOk result (λ k. k.fault ≡ fault_in (spec.bodies_in (tokens_of text.now tokens.now))) }
     ensures bodies { IfOk result (λ k. AreTypes names.new k.known) }
     ensures within { IfOk result (λ k. All (NamedWithin names.new) k.types) }
     ensures grows { Grows names.old names.new }
@@ -283,5 +313,10 @@ pub fn known_in(
     names.is_table();
     let layouts = Layouts::new(alloc, names, types.as_slice())?;
     let known = with_layouts(alloc, names, &layouts, all.as_slice())?;
-    Ok(TextTypes { known, types })
+    let fault = body_fault(alloc, text, tokens, &named)?;
+    Ok(TextTypes {
+        known,
+        types,
+        fault,
+    })
 }

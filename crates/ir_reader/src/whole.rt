@@ -15,6 +15,7 @@ ghost use Rattle.ir_instr.specs.Defined.{AreTypes};
 ghost use Rattle.ir_grammar.specs.Modules.{ModuleV, shown_module};
 ghost use Rattle.ir_grammar.specs.Texts.{last_line, end_of, settled, module_at, read_of};
 ghost use Rattle.ir_reader.specs.Answering.{IsReading};
+ghost use Rattle.ir_reader.specs.Knowing.{fault_in};
 
 use crate::item::read_items;
 use crate::named::{TextTypes, known_in};
@@ -91,20 +92,32 @@ fn settle(
 }
 
 /// Reads the module of all items, among the named types of the whole text.
-fn module_of(cursor: &mut Cursor<'_>, mut names: Names, named: TextTypes) -> Result<Module, ReadEnd>
+fn module_of(
+    cursor: &mut Cursor<'_>,
+    mut names: Names,
+    named: TextTypes,
+) -> Result<Module, ReadEnd>
     requires bodies { AreTypes names named.known }
     requires within { All (NamedWithin names) named.types }
-    ensures reads { (types : List (NamedType Name TypeV)) (known : Known) → ((later : Table) → Grows names later → named_types later named.types ≡ types) → ((later : Table) → Grows names later → known_of later named.known ≡ known) → Reads shown_module cursor.new result (module_at types known cursor.old) }
+    ensures reads { (types : List (NamedType Name TypeV)) (bodies : Outcome (Unit {0})) (known : Known) → ((later : Table) → Grows names later → named_types later named.types ≡ types) → named.fault ≡ fault_in bodies → ((later : Table) → Grows names later → known_of later named.known ≡ known) → Reads shown_module cursor.new result (module_at types bodies known cursor.old) }
     ensures stays { (types : List (NamedType Name TypeV)) (known : Known) → ((later : Table) → Grows names later → named_types later named.types ≡ types) → ((later : Table) → Grows names later → known_of later named.known ≡ known) → IfOk result StaysSame }
 {
-    let read = read_items(cursor, &mut names, &named.known)?;
-    Ok(Module::new(
-        cursor.alloc(),
-        names,
-        named.types,
-        read.globals,
-        read.functions,
-    )?)
+    let TextTypes {
+        known,
+        types,
+        fault,
+    } = named;
+    let read = read_items(cursor, &mut names, &known)?;
+    match fault {
+        Some(fault) => Err(ReadEnd::Bad(fault)),
+        None => Ok(Module::new(
+            cursor.alloc(),
+            names,
+            types,
+            read.globals,
+            read.functions,
+        )?),
+    }
 }
 
 /// Reads a module's text. Where it has a fault, its first fault is answered: the first by place, and at one place the cause

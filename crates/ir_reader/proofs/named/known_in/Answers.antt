@@ -1,5 +1,6 @@
 use Rattle.std.proofs.Common.{◌∙◌, ap}
 use Rattle.ir_text.specs.Tokens.{tokens_of}
+use Rattle.ir_grammar.specs.NamedTypes.{definitions, named_only, bodies_in}
 use Rattle.ir_reader.specs.Knowing.{first_types}
 use Rattle.ir_reader.proofs.Knowing.{types_within_table, are_types, types_found, known_is}
 use Rattle.ir_reader.proofs.named.known_in.Goals as goal
@@ -22,3 +23,7 @@ returns-clause-bodies c = are_types c.defined_types.new.names c.in_ok-layouts.la
 
 pub returns-clause-within : goal.returns-clause-within
 returns-clause-within c = rw (c.in_ok-types.ensures, c.as_slice.ensures) (types_within_table c.defined_types.new.names c.in_ok-all.all c.in_ok-all.ensures.are)
+
+pub returns-clause-fault : goal.returns-clause-fault
+unfolding bodies_in
+returns-clause-fault c = c.in_ok-fault.ensures (named_only (definitions (tokens_of c.args.text.now c.args.tokens.now))) c.in_ok-named.ensures
