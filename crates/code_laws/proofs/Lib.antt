@@ -1,0 +1,12 @@
+pub mod Steps
+pub mod Leaves
+pub mod Values
+pub mod Parts
+pub mod Instructions
+pub mod Registers
+pub mod Phis
+pub mod Edges
+pub mod Functions
+pub mod Pictures
+pub mod Running
+pub mod Reporting

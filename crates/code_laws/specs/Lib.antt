@@ -1,0 +1,7 @@
+pub mod Meanings
+pub mod Ops
+pub mod Coded
+pub mod Pictured
+pub mod Runs
+pub mod Reports
+pub mod Laws

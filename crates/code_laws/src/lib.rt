@@ -1,0 +1,42 @@
+//! Laws of what a module means: they are proved, and nothing is computed here.
+//!
+//! A module is held in a table that gives numbers to its names, types and constants. Its code, the memory in which it starts and
+//! its run are those of the module written out, so that they do not depend on the numbers.
+#![tactic(auto)]
+
+ghost use Rattle.code_laws.specs.Laws.{CodeIsTheModules, PictureIsTheModules, StateIsTheModules, OutcomeIsTheModules, ReportIsTheModules, RefusalIsTheModules, AcceptanceIsTheModules};
+
+/// The code.
+pub fn code_is_that_of_the_module()
+    ensures { CodeIsTheModules }
+{}
+
+/// The memory in which it starts.
+pub fn picture_is_that_of_the_module()
+    ensures { PictureIsTheModules }
+{}
+
+/// The state in which its program starts.
+pub fn state_is_that_of_the_module()
+    ensures { StateIsTheModules }
+{}
+
+/// What a run leaves, whatever the input and the budget.
+pub fn outcome_is_that_of_the_module()
+    ensures { OutcomeIsTheModules }
+{}
+
+/// The report of a run.
+pub fn report_is_that_of_the_module()
+    ensures { ReportIsTheModules }
+{}
+
+/// The line of a module that breaks a rule.
+pub fn refusal_is_that_of_the_module()
+    ensures { RefusalIsTheModules }
+{}
+
+/// The line of a module that is accepted.
+pub fn acceptance_is_that_of_the_module()
+    ensures { AcceptanceIsTheModules }
+{}
