@@ -42,12 +42,12 @@ use Rattle.instr_laws.proofs.Numbers.{token_integer, by_next, number_first, a_nu
 -- ---- one attribute before others
 
 module _ (stop : TokenV → Bool) where
-  words_parts : (ws : List TokenV) → some_words stop tt ws → (units : List (Unit {0})) × each (passed_unless stop) units ws
+  pub words_parts : (ws : List TokenV) → some_words stop tt ws → (units : List (Unit {0})) × each (passed_unless stop) units ws
   words_parts ws s =
       let flat : ws ≡ s.front = s.parts ∙ ap (λ (u : List TokenV). s.front ++ u) s.rest_spells.1 ∙ append-nil s.front in
       (s.value, subst (λ (u : List TokenV). each (passed_unless stop) s.value u) (sym flat) s.first_spells)
 
-  words_of : (units : List (Unit {0})) (ws : List TokenV) → each (passed_unless stop) units ws → some_words stop tt ws
+  pub words_of : (units : List (Unit {0})) (ws : List TokenV) → each (passed_unless stop) units ws → some_words stop tt ws
   words_of units ws s = record { value = units; front = ws; rest = []; parts = sym (append-nil ws); first_spells = s; rest_spells = (refl, refl) }
 
   pub words_none : some_words stop tt []

@@ -140,7 +140,7 @@ type_stops_by kind.Label text e = absurd cc
 type_stops_by kind.Integer text e = absurd cc
 type_stops_by kind.Text text e = absurd cc
 
-type_stops : (t : TokenV) → word_of is_type_word t ≡ true → may_pass (stops [] true) t ≡ false
+pub type_stops : (t : TokenV) → word_of is_type_word t ≡ true → may_pass (stops [] true) t ≡ false
 type_stops t e = stopped is_type_word (stops [] true) t (λ h. type_stops_by t.kind t.text h) e
 
 answer_word : (to : Option Name) (t : TokenV) (of : TypeV) → answer_type to t ≡ Ok of → word_of is_type_word t ≡ true

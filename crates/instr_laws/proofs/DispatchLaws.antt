@@ -1,5 +1,5 @@
 -- The laws of an instruction by its first word.
-use Rattle.std.proofs.Common.{◌≡◌, ℕ, ◌+◌, length, arith, Bool, true, false, cond, List, [], ◌∷◌, ◌++◌, Option, Some, None, Ok, Err, refl, sym, ap, subst, ◌∙◌, ◌⊎◌, inl, inr}
+use Rattle.std.proofs.Common.{◌≡◌, ℕ, ◌+◌, ◌≤◌, length, arith, Bool, true, false, cond, List, [], ◌∷◌, ◌++◌, Option, Some, None, Ok, Err, refl, sym, ap, subst, ◌∙◌, ◌⊎◌, inl, inr}
 use Rattle.std.specs.Prelude.{codes, not}
 use Rattle.std.proofs.lemmas.List.{length-append}
 use lib.Pointwise.{bytes_decides}
@@ -75,11 +75,8 @@ module _ (n : ℕ) where
   end_laws : Lawful n BehindInstruction tails_at some_tails
   end_laws = weaken n Last BehindInstruction tails_at some_tails to_last (tails_laws n)
 
-  tailed_laws : (r : Reader Instr) (s : Form) → Lawful n anything r s → Lawful n BehindInstruction (with_tails r) (tailed s)
-  tailed_laws r s laws = itself (ended (λ (i : Instr). i) laws end_laws (λ ws rest t h. tt))
-
-  last_laws : (r : Reader Instr) (s : Form) → Lawful n Last r s → Lawful n BehindInstruction r s
-  last_laws r s laws = weaken n Last BehindInstruction r s to_last laws
+  tailed_laws : (r : Reader Instr) (s : Form) → Lawful n anything r s → Lawful n Last (with_tails r) (tailed s)
+  tailed_laws r s laws = itself (ended (λ (i : Instr). i) laws (tails_laws n) (λ ws rest t h. tt))
 
 -- a comma goes on with nothing that was passed over
 no_pass_by : (b : ℕ) (stop : TokenV → Bool) (k : TokenKind) (t : TokenV) → t.kind ≡ k → punct_is (35 ∷ []) kind.Punct (b ∷ []) ≡ false → punct_is (b ∷ []) k t.text ≡ true → may_pass_by k stop t ≡ false
@@ -95,7 +92,7 @@ no_pass : (b : ℕ) (stop : TokenV → Bool) (t : TokenV) → punct_is (35 ∷ [
 unfolding may_pass
 no_pass b stop t other e = no_pass_by b stop t.kind t refl other e
 
-comma_behind : (t : TokenV) (rest : List TokenV) → is_mark 44 t ≡ true → BehindCall (t ∷ rest)
+pub comma_behind : (t : TokenV) (rest : List TokenV) → is_mark 44 t ≡ true → BehindCall (t ∷ rest)
 unfolding next_is
 comma_behind t rest e = record { none = apart 44 91 t refl e; fits = record { none = no_pass 44 (stops opcodes false) t refl e; fits = mark_after 44 t rest refl refl e } }
 
@@ -136,7 +133,7 @@ call_word_by kind.Text text e = absurd cc
 abbrev Between : Follow
 Between = Behind (may_pass (stops opcodes false)) AfterPassed
 
-call_behind : (ws rest : List TokenV) → a_word (codes "call") ws → Between (ws ++ rest)
+pub call_behind : (ws rest : List TokenV) → a_word (codes "call") ws → Between (ws ++ rest)
 unfolding next_is
 call_behind ws rest s =
     let e = the_word (codes "call") s.token tt s.is in
@@ -188,7 +185,7 @@ refused : (t : TokenV) → Refuses {A = Instr} (λ rest. wrong t causes.Instruct
 refused t = record { cause = blamed t causes.Instruction; refused = λ rest. refl; unspelled = λ i ws s. s }
 
 abbrev Each : ℕ → TokenV → Reader Instr → Form → Type 0
-Each n t r s = Lawful n BehindInstruction r s ⊎ Refuses r s t
+Each n t r s = Lawful n Last r s ⊎ Refuses r s t
 
 module _ (known : Known) (to : Name) where
   abbrev pub by_word : List ℕ → Form
@@ -232,10 +229,10 @@ module _ (known : Known) (to : Name) where
     word_each t true b c d e f g h end = inl (tailed_laws n (freeze_at known to) (a_freeze known to) (freeze_laws n known to))
     word_each t false true c d e f g h end = inl (tailed_laws n (compare_at known to) (a_compare known to) (compare_laws n known to))
     word_each t false false true d e f g h end = inl (tailed_laws n (select_at known to) (a_select known to) (select_laws n known to))
-    word_each t false false false true e f g h end = inl (last_laws n (phi_at known to) (a_phi known to) (phi_laws n known to))
-    word_each t false false false false true f g h end = inl (last_laws n (alloca_at known to) (an_alloca known to) (alloca_laws n known to))
+    word_each t false false false true e f g h end = inl (phi_laws n known to)
+    word_each t false false false false true f g h end = inl (alloca_laws n known to)
     word_each t false false false false false true g h end = inl (tailed_laws n (load_at known to) (a_load known to) (load_laws n known to))
-    word_each t false false false false false false true h end = inl (last_laws n (address_at known to) (an_address known to) (address_laws n known to))
+    word_each t false false false false false false true h end = inl (address_laws n known to)
     word_each t false false false false false false false true end = inr (refused t)
     word_each t false false false false false false false false end = let clash : false ≡ true = end refl refl refl refl refl refl refl in absurd cc
 
@@ -252,7 +249,7 @@ module _ (known : Known) (to : Name) where
     not_false false e = absurd cc
 
     kind_each : (k : TokenKind) (t : TokenV) (b : Bool) → word_by (λ w. not (listed w)) k t.text ≡ b → Each n t (λ rest. cond b (Err Ended) (resulting_by known k to t rest)) (unless b (by_kind k t.text))
-    kind_each k t true is = inl (dead n BehindInstruction)
+    kind_each k t true is = inl (dead n Last)
     kind_each kind.Word t false is = operation_each t (meaning_of operations t.text) (not_false (listed t.text) is) refl
     kind_each kind.Punct t false is = inr (refused t)
     kind_each kind.GlobalName t false is = inr (refused t)
@@ -261,9 +258,9 @@ module _ (known : Known) (to : Name) where
     kind_each kind.Integer t false is = inr (refused t)
     kind_each kind.Text t false is = inr (refused t)
 
-    form_laws : Lawful n BehindInstruction form_at a_form
+    form_laws : Lawful n Last form_at a_form
     unfolding form_at
-    form_laws = led n BehindInstruction form_at (λ t rest. cond (Unlike t) (Err Ended) (resulting_by known t.kind to t rest)) (λ t. led_form t.kind t.text) refl (λ t rest. refl) (λ t. kind_each t.kind t (Unlike t) refl)
+    form_laws = led n Last form_at (λ t rest. cond (Unlike t) (Err Ended) (resulting_by known t.kind to t rest)) (λ t. led_form t.kind t.text) refl (λ t rest. refl) (λ t. kind_each t.kind t (Unlike t) refl)
 
     -- a call where the word begins no other instruction
     call_there_by : (k : TokenKind) (t : TokenV) (rest : List TokenV) → word_by (λ w. not (listed w)) k t.text ≡ true → call_from known (Some to) t (t ∷ rest) ≡ resulting_by known k to t rest
@@ -290,13 +287,22 @@ module _ (known : Known) (to : Name) where
         by_unlike true is = from_is n known (Some to) t rest ∙ call_there_by t.kind t rest is
         by_unlike false is = refl
 
-    form_unlike : (i : Instr) (ws rest : List TokenV) → a_form i ws → BehindInstruction rest → next_is Unlike (ws ++ rest) ≡ false
+    form_unlike : (i : Instr) (ws rest : List TokenV) → a_form i ws → next_is Unlike (ws ++ rest) ≡ false
     unfolding next_is
-    form_unlike i ws rest s h = ap (λ (u : List TokenV). next_is Unlike (u ++ rest)) s.parts ∙ by_unlike (Unlike s.token) s.rest_spells
+    form_unlike i ws rest s = ap (λ (u : List TokenV). next_is Unlike (u ++ rest)) s.parts ∙ by_unlike (Unlike s.token) s.rest_spells
       where
         by_unlike : (b : Bool) → unless b (by_kind s.token.kind s.token.text) i s.rest → b ≡ false
         by_unlike true u = absurd u
         by_unlike false u = refl
+
+    -- a form but a call is read before anything but `,`
+    pub form_settled : (i : Instr) (ws rest : List TokenV) → length ws ≤ n → a_form i ws → Last rest → resulting_at known to (ws ++ rest) ≡ Ok (i, rest)
+    form_settled i ws rest short s h = let other = form_unlike i ws rest s in sym (by_first (ws ++ rest)) ∙ rw other (form_laws.complete i ws rest short s h)
+
+    -- and a call, from a word that begins no other instruction
+    pub resulting_call : (t : TokenV) (rest : List TokenV) → Unlike t ≡ true → call_from known (Some to) t (t ∷ rest) ≡ resulting_at known to (t ∷ rest)
+    unfolding resulting_at
+    resulting_call t rest e = call_there_by t.kind t rest e
 
     abbrev pub a_resulting : Form
     a_resulting i ws = a_form i ws ⊎ (marked_form n known (Some to) i ws × Opens Unlike ws)
@@ -304,7 +310,7 @@ module _ (known : Known) (to : Name) where
     pub resulting_laws : Lawful n BehindInstruction (resulting_at known to) a_resulting
     resulting_laws =
         reread n BehindInstruction (λ ts. choose Unlike (only_marked n known (Some to)) form_at ts) (resulting_at known to) a_resulting by_first
-        (choice n Unlike BehindInstruction BehindInstruction BehindInstruction (only_marked n known (Some to)) form_at (λ i ws. marked_form n known (Some to) i ws × Opens Unlike ws) a_form (only_marked_laws n known (Some to)) form_laws (λ i ws s. s.1) form_unlike (λ rest h. h) (λ rest h. h))
+        (choice n Unlike BehindInstruction Last BehindInstruction (only_marked n known (Some to)) form_at (λ i ws. marked_form n known (Some to) i ws × Opens Unlike ws) a_form (only_marked_laws n known (Some to)) form_laws (λ i ws s. s.1) (λ i ws rest s h. form_unlike i ws rest s) (λ rest h. h) to_last)
 
 -- ---- without a result
 
@@ -351,7 +357,7 @@ module _ (known : Known) where
     effect_word_each t false false false false false false is = absurd cc
 
     effect_kind_each : (k : TokenKind) (t : TokenV) (b : Bool) → word_by (λ w. not (listed w)) k t.text ≡ b → Each n t (λ rest. cond b (Err Ended) (effect_by known k t rest)) (unless b (effect_by_kind k t.text))
-    effect_kind_each k t true is = inl (dead n BehindInstruction)
+    effect_kind_each k t true is = inl (dead n Last)
     effect_kind_each kind.Word t false is =
         effect_word_each t (same t.text (codes "store")) (same t.text (codes "ret")) (same t.text (codes "br")) (same t.text (codes "switch")) (same t.text (codes "unreachable")) (listed t.text) (yes_listed (listed t.text) is)
       where
@@ -365,9 +371,9 @@ module _ (known : Known) where
     effect_kind_each kind.Integer t false is = inr (refused t)
     effect_kind_each kind.Text t false is = inr (refused t)
 
-    effect_form_laws : Lawful n BehindInstruction effect_form_at an_effect_form
+    effect_form_laws : Lawful n Last effect_form_at an_effect_form
     unfolding effect_form_at
-    effect_form_laws = led n BehindInstruction effect_form_at (λ t rest. cond (Unlike t) (Err Ended) (effect_by known t.kind t rest)) (λ t. led_effect t.kind t.text) refl (λ t rest. refl) (λ t. effect_kind_each t.kind t (Unlike t) refl)
+    effect_form_laws = led n Last effect_form_at (λ t rest. cond (Unlike t) (Err Ended) (effect_by known t.kind t rest)) (λ t. led_effect t.kind t.text) refl (λ t rest. refl) (λ t. effect_kind_each t.kind t (Unlike t) refl)
 
     effect_call_by : (k : TokenKind) (t : TokenV) (rest : List TokenV) → word_by (λ w. not (listed w)) k t.text ≡ true → call_from known None t (t ∷ rest) ≡ effect_by known k t rest
     effect_call_by kind.Word t rest e =
@@ -394,13 +400,22 @@ module _ (known : Known) where
         by_unlike true is = from_is n known None t rest ∙ effect_call_by t.kind t rest is
         by_unlike false is = refl
 
-    effect_unlike : (i : Instr) (ws rest : List TokenV) → an_effect_form i ws → BehindInstruction rest → next_is Unlike (ws ++ rest) ≡ false
+    effect_unlike : (i : Instr) (ws rest : List TokenV) → an_effect_form i ws → next_is Unlike (ws ++ rest) ≡ false
     unfolding next_is
-    effect_unlike i ws rest s h = ap (λ (u : List TokenV). next_is Unlike (u ++ rest)) s.parts ∙ by_unlike (Unlike s.token) s.rest_spells
+    effect_unlike i ws rest s = ap (λ (u : List TokenV). next_is Unlike (u ++ rest)) s.parts ∙ by_unlike (Unlike s.token) s.rest_spells
       where
         by_unlike : (b : Bool) → unless b (effect_by_kind s.token.kind s.token.text) i s.rest → b ≡ false
         by_unlike true u = absurd u
         by_unlike false u = refl
+
+    -- a form but a call is read before anything but `,`
+    pub effect_settled : (i : Instr) (ws rest : List TokenV) → length ws ≤ n → an_effect_form i ws → Last rest → effect_at known (ws ++ rest) ≡ Ok (i, rest)
+    effect_settled i ws rest short s h = let other = effect_unlike i ws rest s in sym (by_first_effect (ws ++ rest)) ∙ rw other (effect_form_laws.complete i ws rest short s h)
+
+    -- and a call, from a word that begins no other instruction
+    pub effect_call : (t : TokenV) (rest : List TokenV) → Unlike t ≡ true → call_from known None t (t ∷ rest) ≡ effect_at known (t ∷ rest)
+    unfolding effect_at
+    effect_call t rest e = effect_call_by t.kind t rest e
 
     abbrev pub an_effect : Form
     an_effect i ws = an_effect_form i ws ⊎ (marked_form n known None i ws × Opens Unlike ws)
@@ -408,4 +423,4 @@ module _ (known : Known) where
     pub effect_laws : Lawful n BehindInstruction (effect_at known) an_effect
     effect_laws =
         reread n BehindInstruction (λ ts. choose Unlike (only_marked n known None) effect_form_at ts) (effect_at known) an_effect by_first_effect
-        (choice n Unlike BehindInstruction BehindInstruction BehindInstruction (only_marked n known None) effect_form_at (λ i ws. marked_form n known None i ws × Opens Unlike ws) an_effect_form (only_marked_laws n known None) effect_form_laws (λ i ws s. s.1) effect_unlike (λ rest h. h) (λ rest h. h))
+        (choice n Unlike BehindInstruction Last BehindInstruction (only_marked n known None) effect_form_at (λ i ws. marked_form n known None i ws × Opens Unlike ws) an_effect_form (only_marked_laws n known None) effect_form_laws (λ i ws s. s.1) (λ i ws rest s h. effect_unlike i ws rest s) (λ rest h. h) to_last)

@@ -352,11 +352,11 @@ call_unlike_by kind.Label text e = absurd cc
 call_unlike_by kind.Integer text e = absurd cc
 call_unlike_by kind.Text text e = absurd cc
 
-markers_words : (ws : List TokenV) → some_markers ws → some_words (stops opcodes false) tt ws
+pub markers_words : (ws : List TokenV) → some_markers ws → some_words (stops opcodes false) tt ws
 markers_words ws (inl none) = subst (some_words (stops opcodes false) tt) (sym none) (words_none (stops opcodes false))
 markers_words ws (inr s) = s.1
 
-markers_open : (c : Tokens) (ws front rest : List TokenV) → ws ≡ front ++ rest → some_markers front → Both (a_word (codes "call")) c rest → Opens Unlike ws
+pub markers_open : (c : Tokens) (ws front rest : List TokenV) → ws ≡ front ++ rest → some_markers front → Both (a_word (codes "call")) c rest → Opens Unlike ws
 markers_open c ws front rest parts (inl none) s =
     let a = s.first_spells in
     record { token = a.token; rest = s.rest; parts = parts ∙ ap (λ (u : List TokenV). u ++ rest) none ∙ s.parts ∙ ap (λ (u : List TokenV). u ++ s.rest) a.parts; is = call_unlike_by a.token.kind a.token.text (the_word (codes "call") a.token tt a.is) }
@@ -393,7 +393,7 @@ module _ (n : ℕ) (known : Known) (next : ℕ) (defined : List Name) where
         markers_open _ ws s.front s.rest s.parts s.first_spells c,
       )
 
-  abbrev an_assignment : Form
+  abbrev pub an_assignment : Form
   an_assignment = InTurn (one_token (defined_name next defined)) (λ to. λ i. Both (a_mark 61) (a_resulting known to n i))
 
   assigned : (to : Name) (c : Tokens) (i : Instr) (ws : List TokenV) → Both (a_result known next defined to) c ws → ((us : List TokenV) → c us → a_resulting known to n i us) → an_assignment i ws
@@ -416,10 +416,10 @@ module _ (n : ℕ) (known : Known) (next : ℕ) (defined : List Name) where
 
   -- ---- from an instruction to the reading's order
 
-  abbrev Read : Form
+  abbrev pub Read : Form
   Read i ws = an_effect known n i ws ⊎ an_assignment i ws
 
-  from : (i : Instr) (ws : List TokenV) → an_instruction known next defined i ws → Read i ws
+  pub from : (i : Instr) (ws : List TokenV) → an_instruction known next defined i ws → Read i ws
   unfolding meaning_of among
   from (instruction.Binary to operation flags of left right) ws s =
       inr (assigned to _ (instruction.Binary to operation flags of left right) ws s (λ us h. inl (binary_leads known to operation _ (instruction.Binary to operation flags of left right) us h (λ vs c. retail _ _ (flags, (of, (left, right))) vs (one5 vs c)))))
@@ -467,7 +467,7 @@ module _ (n : ℕ) (known : Known) (next : ℕ) (defined : List Name) where
   assignment_laws = in_turn n BehindInstruction (token_by (defined_name next defined)) (λ name ts. mark_at 61 ts >>= λ equals. resulting_at known name equals.1) (one_token (defined_name next defined)) (λ name. λ i. Both (a_mark 61) (a_resulting known name n i)) (token_laws n (defined_name next defined))
       (λ name. through (token_laws n (mark 61)) (resulting_laws known name n) (λ i ws rest s h. tt))
 
-  defined_local_by : (k : TokenKind) (t : TokenV) (name : Name) → defined_by next defined k t ≡ Ok name → kind_is_local k ≡ true
+  pub defined_local_by : (k : TokenKind) (t : TokenV) (name : Name) → defined_by next defined k t ≡ Ok name → kind_is_local k ≡ true
   defined_local_by kind.LocalName t name e = refl
   defined_local_by kind.GlobalName t name e = absurd cc
   defined_local_by kind.Label t name e = absurd cc
@@ -491,7 +491,7 @@ module _ (n : ℕ) (known : Known) (next : ℕ) (defined : List Name) where
   led_not_local kind.Text text false i us s = refl
   led_not_local kind.Punct text false i us s = refl
 
-  unlike_not_local : (k : TokenKind) (text : List ℕ) → word_by (λ w. not (listed w)) k text ≡ true → not (kind_is_local k) ≡ true
+  pub unlike_not_local : (k : TokenKind) (text : List ℕ) → word_by (λ w. not (listed w)) k text ≡ true → not (kind_is_local k) ≡ true
   unlike_not_local kind.Word text e = refl
   unlike_not_local kind.LocalName text e = absurd cc
   unlike_not_local kind.GlobalName text e = refl
@@ -500,7 +500,7 @@ module _ (n : ℕ) (known : Known) (next : ℕ) (defined : List Name) where
   unlike_not_local kind.Text text e = refl
   unlike_not_local kind.Punct text e = refl
 
-  effect_opens : (i : Instr) (ws : List TokenV) → an_effect known n i ws → Opens (λ t. not (is_local t)) ws
+  pub effect_opens : (i : Instr) (ws : List TokenV) → an_effect known n i ws → Opens (λ t. not (is_local t)) ws
   effect_opens i ws (inl f) = record { token = f.token; rest = f.rest; parts = f.parts; is = led_not_local f.token.kind f.token.text (Unlike f.token) i f.rest f.rest_spells }
   effect_opens i ws (inr m) = opens_as Unlike (λ t. not (is_local t)) ws (λ t e. unlike_not_local t.kind t.text e) m.1
 

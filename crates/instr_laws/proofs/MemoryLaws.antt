@@ -56,7 +56,7 @@ module _ (n : ℕ) (known : Known) where
       by_layout false = refl
   judged (Err e) t = refl
 
-  type_takes : Takers (a_type known)
+  pub type_takes : Takers (a_type known)
   type_takes of ws s = let o = type_opens known of ws s in omega (arith, ap length o.parts)
 
   laid_to : (of : TypeV) (ws : List TokenV) → (a_type known of ws × (why of ≡ None)) → InMemory known of ws

@@ -1,0 +1,15 @@
+pub mod Between
+pub mod HeadLaws
+pub mod SkippedLaws
+pub mod Leading
+pub mod RowLaws
+pub mod BodyLaws
+pub mod GlobalLaws
+pub mod FunctionLaws
+pub mod ItemLaws
+pub mod WholeLaws
+pub mod StepLaws
+pub mod BlockLaws
+pub mod DefinitionLaws
+pub mod ModuleLaws
+pub mod Uniqueness

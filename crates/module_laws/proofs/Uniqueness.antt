@@ -1,0 +1,60 @@
+-- A text spells at most one module, and has at most one first fault.
+use Rattle.std.proofs.Common.{◌≡◌, ℕ, List, [], ◌∷◌, ◌++◌, Err, refl, sym, ap, ◌∙◌, inl, inr}
+use Rattle.ir_lex.specs.declared.token.Cause.{Cause}
+use Rattle.ir_text.specs.declared.fault.Fault.TheVariants.{At}
+use Rattle.ir_text.specs.Tokens.{TokenV}
+use Rattle.ir_text.specs.Reading.{Reader}
+use Rattle.ir_text.specs.Lawful.{Unfaulted, WrongAt}
+use Rattle.ir_grammar.specs.Modules.{ModuleV}
+use Rattle.ir_grammar.specs.Texts.{module_at, read_tokens, read_of}
+use Rattle.module_laws.specs.TextLaws.{known_of, SpelledIsRead, OneModule, OneFault}
+use Rattle.module_laws.proofs.ModuleLaws.{module_read}
+
+pub spelled_is_read : SpelledIsRead
+unfolding read_of
+spelled_is_read text m s =
+    let read = module_read (known_of text) m (read_tokens text) s.spelled in
+    let lexical = s.lexical in
+    rw read (rw lexical refl)
+
+pub one_module : OneModule
+one_module text a b s t = let same = sym (spelled_is_read text a s) ∙ spelled_is_read text b t in cc
+
+-- ---- one place
+
+-- of two places in a row of tokens one is not behind the other, or both are one
+data Places (us : List TokenV) (t : TokenV) (vs : List TokenV) (u : TokenV) : Type 0 where
+  One : us ≡ vs → t ≡ u → Places us t vs u
+  Earlier : (more : List TokenV) → vs ≡ us ++ t ∷ more → Places us t vs u
+  Later : (more : List TokenV) → us ≡ vs ++ u ∷ more → Places us t vs u
+
+further : (w x : TokenV) (us : List TokenV) (t : TokenV) (vs : List TokenV) (u : TokenV) → w ≡ x → Places us t vs u → Places (w ∷ us) t (x ∷ vs) u
+further w x us t vs u e (One p q) = One (ap (λ (y : TokenV). y ∷ us) e ∙ ap (λ (ys : List TokenV). x ∷ ys) p) q
+further w x us t vs u e (Earlier more p) = Earlier more (ap (λ (ys : List TokenV). x ∷ ys) p ∙ ap (λ (y : TokenV). y ∷ (us ++ t ∷ more)) (sym e))
+further w x us t vs u e (Later more p) = Later more (ap (λ (ys : List TokenV). w ∷ ys) p ∙ ap (λ (y : TokenV). y ∷ (vs ++ u ∷ more)) e)
+
+places : (us : List TokenV) (t : TokenV) (rest vs : List TokenV) (u : TokenV) (others : List TokenV) → us ++ t ∷ rest ≡ vs ++ u ∷ others → Places us t vs u
+places [] t rest [] u others e = One refl (let first : t ≡ u = cc in first)
+places [] t rest (x ∷ vs) u others e = Earlier vs (let first : t ≡ x = cc in ap (λ (y : TokenV). y ∷ vs) (sym first))
+places (w ∷ us) t rest [] u others e = Later us (let first : w ≡ u = cc in ap (λ (y : TokenV). y ∷ us) first)
+places (w ∷ us) t rest (x ∷ vs) u others e = let first : w ≡ x = cc in let behind : us ++ t ∷ rest ≡ vs ++ u ∷ others = cc in further w x us t vs u first (places us t rest vs u others behind)
+
+-- a fault is not behind another
+module _ (r : Reader ModuleV) where
+  not_behind : (us : List TokenV) (t : TokenV) (vs more : List TokenV) (line : ℕ) (cause : Cause) → ((behind : List TokenV) → r (us ++ t ∷ behind) ≡ Err (At line cause)) → Unfaulted (r vs) → vs ≡ us ++ t ∷ more → ⊥
+  not_behind us t vs more line cause stays (inl all) is = let clash = sym (stays more) ∙ ap r (sym is) ∙ all.1 in absurd cc
+  not_behind us t vs more line cause stays (inr ends) is = let clash = sym (stays more) ∙ ap r (sym is) ∙ ends in absurd cc
+
+  one_place : (ts : List TokenV) (line other : ℕ) (cause why : Cause) (a : WrongAt r ts line cause) (b : WrongAt r ts other why) → (a.front ≡ b.front) × (a.token ≡ b.token)
+  one_place ts line other cause why a b =
+      elim (places a.front a.token a.rest b.front b.token b.rest (sym a.parts ∙ b.parts)) [
+        | One p q ↦ (p, q)
+        | Earlier more p ↦ absurd (not_behind a.front a.token b.front more line cause a.stays b.still_open p)
+        | Later more p ↦ absurd (not_behind b.front b.token a.front more other why b.stays a.still_open p)
+      ]
+
+pub one_fault : OneFault
+one_fault text found other a b =
+    let same : found ≡ other = (let first = a.met text a.place.rest a.place.parts (λ name. refl) in let second = b.met text b.place.rest b.place.parts (λ name. refl) in let both = sym first ∙ second in cc) in
+    let places_are = one_place (module_at (known_of text)) (read_tokens text) found.line other.line found.cause other.cause a.place b.place in
+    (same, places_are.0, places_are.1)

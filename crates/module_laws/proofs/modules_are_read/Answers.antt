@@ -1,0 +1,5 @@
+use Rattle.module_laws.proofs.ModuleLaws.{modules_laws}
+use Rattle.module_laws.proofs.modules_are_read.Goals as goal
+
+pub returns : goal.returns
+returns c = modules_laws
