@@ -7,7 +7,7 @@ use Rattle.ir_text.specs.Reading.{Reader}
 use Rattle.ir_text.specs.Lawful.{Unfaulted, WrongAt}
 use Rattle.ir_grammar.specs.Modules.{ModuleV}
 use Rattle.ir_grammar.specs.Texts.{module_at, read_tokens, read_of}
-use Rattle.module_laws.specs.TextLaws.{known_of, SpelledIsRead, OneModule, OneFault}
+use Rattle.module_laws.specs.TextLaws.{known_of, SpelledIsRead, OneModule, OneFault, FaultsApart}
 use Rattle.module_laws.proofs.ModuleLaws.{module_read}
 
 pub spelled_is_read : SpelledIsRead
@@ -58,3 +58,8 @@ one_fault text found other a b =
     let same : found ≡ other = (let first = a.met text a.place.rest a.place.parts (λ name. refl) in let second = b.met text b.place.rest b.place.parts (λ name. refl) in let both = sym first ∙ second in cc) in
     let places_are = one_place (module_at (known_of text)) (read_tokens text) found.line other.line found.cause other.cause a.place b.place in
     (same, places_are.0, places_are.1)
+
+pub faults_apart : FaultsApart
+faults_apart text found other a b =
+    let w = a.place in
+    not_behind (module_at (known_of text)) w.front w.token (read_tokens text) w.rest found.line found.cause w.stays b.still_open w.parts

@@ -53,3 +53,7 @@ pub record FaultAtEnd (text : List ℕ) (found : ReadError) : Type 0 where
 -- a text of no module has a first fault, or its fault is where its tokens end
 abbrev pub FaultIsFirst : Type 0
 FaultIsFirst = (text : List ℕ) (found : ReadError) → read_of text ≡ Err found → FirstFault text found ⊎ FaultAtEnd text found
+
+-- and not both
+abbrev pub FaultsApart : Type 0
+FaultsApart = (text : List ℕ) (found other : ReadError) → FirstFault text found → FaultAtEnd text other → ⊥

@@ -22,7 +22,7 @@ ghost use Rattle.module_laws.specs.Heads.{a_param, closed_params, a_head};
 ghost use Rattle.module_laws.specs.Blocks.{some_instructions, a_block, a_body};
 ghost use Rattle.module_laws.specs.Skipped.{up_to_string, some_attributes, some_metadata, a_comdat, some_attached};
 ghost use Rattle.module_laws.specs.ItemsSpelled.{a_named_type, a_global, a_declaration, a_definition, an_item, a_module};
-ghost use Rattle.module_laws.specs.TextLaws.{ReadIsSpelled, SpelledIsRead, OneModule, FaultIsFirst, OneFault};
+ghost use Rattle.module_laws.specs.TextLaws.{ReadIsSpelled, SpelledIsRead, OneModule, FaultIsFirst, OneFault, FaultsApart};
 
 /// A parameter, before the `,` or `)` that ends it.
 pub fn parameters_are_read()
@@ -124,7 +124,7 @@ pub fn one_module()
     ensures { OneModule }
 {}
 
-/// The fault of a text is its first.
+/// A text of no module has a first fault, or its fault is where its tokens end.
 pub fn faults_are_first()
     ensures { FaultIsFirst }
 {}
@@ -132,4 +132,9 @@ pub fn faults_are_first()
 /// A text has at most one first fault.
 pub fn one_fault()
     ensures { OneFault }
+{}
+
+/// A text with a first fault has none where its tokens end.
+pub fn faults_are_apart()
+    ensures { FaultsApart }
 {}
