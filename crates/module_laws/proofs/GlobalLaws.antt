@@ -72,7 +72,7 @@ module _ (n : ℕ) (known : Known) where
       by_test true = refl
       by_test false = refl
 
-  named_body_laws : Lawful n anything (named_body_at known) (a_named_body known)
+  pub named_body_laws : Lawful n anything (named_body_at known) (a_named_body known)
   named_body_laws =
       reread n anything (λ ts. choose begins_body body_only (token_by (λ t. Err (no_body known t))) ts) (named_body_at known) (a_named_body known) same_body
       (respell n anything (λ ts. choose begins_body body_only (token_by (λ t. Err (no_body known t))) ts) (λ of ws. no_body_here of ws ⊎ (a_type known of ws × Opens begins_body ws)) (a_named_body known) body_to (λ of ws s. inr s)

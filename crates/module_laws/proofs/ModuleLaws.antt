@@ -29,12 +29,12 @@ use Rattle.ir_grammar.specs.Headers.{Header, scope_of}
 use Rattle.ir_grammar.specs.Bodies.{body_at}
 use Rattle.ir_grammar.specs.Modules.{Item, TypeItem, GlobalItem, FunctionItem, PassedItem, SoFar, nothing_so_far, with_item, ModuleV}
 use Rattle.ir_grammar.specs.Items.{size_of, item_words, declared_function, declaration_at, is_global, any_token, worded_item_at, item_at}
-use Rattle.ir_grammar.specs.Texts.{module_at}
 use Rattle.module_laws.specs.Behind.{at_end, Between, BehindDeclaration, BehindItem}
 use Rattle.module_laws.specs.Blocks.{a_body}
 use Rattle.module_laws.specs.Heads.{a_head}
 use Rattle.module_laws.specs.Skipped.{up_to_string, some_attributes, some_metadata, a_comdat, some_attached}
 use Rattle.module_laws.specs.ItemsSpelled.{a_named_type, a_global, a_declaration, a_definition, an_item, a_module}
+use Rattle.module_laws.specs.TextLaws.{items_module_at}
 use Rattle.module_laws.proofs.Between.{opens_follow, mark_between, word_mark, that_word_between, is_name, name_between, name_mark, local_name, global_name}
 use Rattle.module_laws.proofs.DefinitionLaws.{body_laws, definition_laws}
 use Rattle.module_laws.proofs.FunctionLaws.{declaration_laws, head_opens}
@@ -324,11 +324,11 @@ module _ (known : Known) where
       }
 
   -- what is spelled is read
-  pub module_read : (m : ModuleV) (ws : List TokenV) → a_module known m ws → module_at known ws ≡ Ok (m, [])
-  module_read m ws s =
+  pub module_read : (types : List (NamedType Name TypeV)) (m : ModuleV) (ws : List TokenV) → a_module types known m ws → items_module_at types known ws ≡ Ok (m, [])
+  module_read types m ws s =
       let a = all_read (length s.parts) nothing_so_far s.parts ws (omega arith) s.spelled in
       let read = a.read in
-      rw read (ap (λ (x : SoFar). let o : Outcome ModuleV = Ok (x.module_so_far, []) in o) a.same_module ∙ ap (λ (x : ModuleV). let o : Outcome ModuleV = Ok (x, []) in o) s.is)
+      rw read (ap (λ (x : SoFar). let o : Outcome ModuleV = Ok (record x.module_so_far { types = types }, []) in o) a.same_module ∙ ap (λ (x : ModuleV). let o : Outcome ModuleV = Ok (x, []) in o) s.is)
 
 -- ---- the laws
 
@@ -337,14 +337,14 @@ module _ (n : ℕ) (known : Known) where
   items_laws s = item_laws n known s BehindItem (λ rest h. record { none = h.none; fits = tt }) (λ rest h. h.fits)
       (λ h. weaken n anything BehindItem (body_at known (scope_of h.params)) (a_body known (scope_of h.params)) (λ rest b. tt) (body_laws n known (scope_of h.params)))
 
-  pub modules_laws : Lawful n at_end (module_at known) (a_module known)
-  modules_laws =
-      let loose = loose_module n known in
+  pub modules_laws : (types : List (NamedType Name TypeV)) → Lawful n at_end (items_module_at types known) (a_module types known)
+  modules_laws types =
+      let loose = loose_module n types known in
       record {
         sound = loose.sound;
         complete = λ m ws rest short s over.
-            let read : module_at known (ws ++ []) ≡ Ok (m, []) = ap (module_at known) (append-nil ws) ∙ module_read known m ws s in
-            subst (λ (u : List TokenV). module_at known (ws ++ u) ≡ Ok (m, u)) (sym over) read;
+            let read : items_module_at types known (ws ++ []) ≡ Ok (m, []) = ap (items_module_at types known) (append-nil ws) ∙ module_read known types m ws s in
+            subst (λ (u : List TokenV). items_module_at types known (ws ++ u) ≡ Ok (m, u)) (sym over) read;
         faults = loose.faults;
         begins = loose.begins;
       }

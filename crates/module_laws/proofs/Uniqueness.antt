@@ -1,21 +1,26 @@
 -- A text spells at most one module, and has at most one first fault.
 use Rattle.std.proofs.Common.{◌≡◌, ℕ, List, [], ◌∷◌, ◌++◌, Err, refl, sym, ap, ◌∙◌, inl, inr}
 use Rattle.ir_lex.specs.declared.token.Cause.{Cause}
+use Rattle.ir_lex.specs.declared.token.ReadError.{ReadError}
+use Rattle.ir_lex.specs.Lexing.{lexed}
 use Rattle.ir_text.specs.declared.fault.Fault.TheVariants.{At}
 use Rattle.ir_text.specs.Tokens.{TokenV}
-use Rattle.ir_text.specs.Reading.{Reader}
+use Rattle.ir_text.specs.Reading.{Outcome, Reader}
 use Rattle.ir_text.specs.Lawful.{Unfaulted, WrongAt}
 use Rattle.ir_grammar.specs.Modules.{ModuleV}
-use Rattle.ir_grammar.specs.Texts.{module_at, read_tokens, read_of}
-use Rattle.module_laws.specs.TextLaws.{known_of, SpelledIsRead, OneModule, OneFault, FaultsApart}
+use Rattle.ir_grammar.specs.Items.{named_body_at, items_at}
+use Rattle.ir_grammar.specs.NamedTypes.{definitions, bodies_in}
+use Rattle.ir_grammar.specs.Texts.{last_line, settled, read_tokens, read_of}
+use Rattle.module_laws.specs.TextLaws.{types_of, known_of, names_of, items_of, module_in, SpelledIsRead, OneModule, FirstFault, OneFault, FaultInBody, FaultsApart}
 use Rattle.module_laws.proofs.ModuleLaws.{module_read}
+use Rattle.module_laws.proofs.WholeLaws.{both_sound, unread_fault, items_first, then_body}
 
 pub spelled_is_read : SpelledIsRead
 unfolding read_of
 spelled_is_read text m s =
-    let read = module_read (known_of text) m (read_tokens text) s.spelled in
+    let both = both_sound (types_of text) (bodies_in (read_tokens text)) (items_at (known_of text) (read_tokens text)) (m, []) s.bodies (module_read (known_of text) (types_of text) m (read_tokens text) s.spelled) in
     let lexical = s.lexical in
-    rw read (rw lexical refl)
+    ap (settled (last_line text) (lexed text).fault) both ∙ rw lexical refl
 
 pub one_module : OneModule
 one_module text a b s t = let same = sym (spelled_is_read text a s) ∙ spelled_is_read text b t in cc
@@ -56,10 +61,28 @@ module _ (r : Reader ModuleV) where
 pub one_fault : OneFault
 one_fault text found other a b =
     let same : found ≡ other = (let first = a.met text a.place.rest a.place.parts (λ name. refl) in let second = b.met text b.place.rest b.place.parts (λ name. refl) in let both = sym first ∙ second in cc) in
-    let places_are = one_place (module_at (known_of text)) (read_tokens text) found.line other.line found.cause other.cause a.place b.place in
+    let places_are = one_place (items_of text) (read_tokens text) found.line other.line found.cause other.cause a.place b.place in
     (same, places_are.0, places_are.1)
 
+-- ---- one of the three
+
+first_in : (text : List ℕ) (found : ReadError) → FirstFault text found → items_of text (read_tokens text) ≡ Err (At found.line found.cause)
+first_in text found a = ap (items_of text) a.place.parts ∙ a.place.stays a.place.rest
+
+body_in : (text : List ℕ) (found : ReadError) → FaultInBody text found → module_in text ≡ Err (At found.line found.cause)
+unfolding bodies_in
+body_in text found a =
+    let there : named_body_at (names_of text) a.body ≡ Err (At found.line found.cause) = ap (named_body_at (names_of text)) a.place.parts ∙ a.place.stays a.place.rest in
+    then_body text (At found.line found.cause) a.items (unread_fault (names_of text) (definitions (read_tokens text)) a.body (At found.line found.cause) a.stands there)
+
+-- what is wrong at a token is not open where the tokens end
+not_open : (o : Outcome ModuleV) (line : ℕ) (cause : Cause) → o ≡ Err (At line cause) → Unfaulted o → ⊥
+not_open o line cause bad (inl all) = let clash = sym bad ∙ all.1 in absurd cc
+not_open o line cause bad (inr ends) = let clash = sym bad ∙ ends in absurd cc
+
 pub faults_apart : FaultsApart
-faults_apart text found other a b =
-    let w = a.place in
-    not_behind (module_at (known_of text)) w.front w.token (read_tokens text) w.rest found.line found.cause w.stays b.still_open w.parts
+faults_apart text found other = (
+  λ a b. not_open (module_in text) found.line found.cause (items_first (types_of text) (types_of text) (bodies_in (read_tokens text)) (known_of text) (read_tokens text) (At found.line found.cause) (first_in text found a)) b.still_open,
+  λ a b. let clash = sym (first_in text found a) ∙ b.items.read in absurd cc,
+  λ a b. not_open (module_in text) found.line found.cause (body_in text found a) b.still_open,
+)

@@ -74,10 +74,10 @@ module _ (known : Known) (s : SoFar) where
 abbrev pub some_items : Known → List Item → List TokenV → Type 0
 some_items known = each_under (an_item known) with_item nothing_so_far
 
--- the module of all items
-abbrev pub module_of : List Item → ModuleV
-module_of all = (fold with_item nothing_so_far all).module_so_far
+-- the module of these named types and all items
+abbrev pub module_of : List (NamedType Name TypeV) → List Item → ModuleV
+module_of types all = record (fold with_item nothing_so_far all).module_so_far { types = types }
 
--- a module is spelled by the tokens of its items
-abbrev pub a_module : Known → ModuleV → List TokenV → Type 0
-a_module known = Made module_of (some_items known)
+-- a module of these named types is spelled by the tokens of its items
+abbrev pub a_module : List (NamedType Name TypeV) → Known → ModuleV → List TokenV → Type 0
+a_module types known = Made (module_of types) (some_items known)

@@ -2,11 +2,14 @@
 //!
 //! Each part of an item is read exactly where it is spelled, and else its first fault is met. A text is read as a module
 //! exactly where it spells it, and it spells at most one. A text of none has one first fault, or its tokens end: no text
-//! avoids that fault that begins alike through its token and defines the same named types.
+//! avoids that fault that begins alike through its token and defines the same named types. Where all items are read, the
+//! fault may be the first in the body of a definition: no text avoids that one whose first body with a fault begins alike.
 #![tactic(auto)]
 
 ghost use Rattle.std.specs.Prelude.{ℕ, Bool, List};
 ghost use Rattle.pv_base.specs.declared.name.Name.{Name};
+ghost use Rattle.ir_tree.specs.declared.items.NamedType.{NamedType};
+ghost use Rattle.ir_tree.specs.Trees.{TypeV};
 ghost use Rattle.ir_text.specs.Lawful.{Behind, anything, Lawful};
 ghost use Rattle.ir_text.specs.Tokens.{is_mark};
 ghost use Rattle.ir_text.specs.Types.{Known};
@@ -14,7 +17,6 @@ ghost use Rattle.ir_grammar.specs.Scopes.{Scope};
 ghost use Rattle.ir_grammar.specs.Headers.{param_at, params_at, header_at};
 ghost use Rattle.ir_grammar.specs.Bodies.{instructions_at, block_at, body_at};
 ghost use Rattle.ir_grammar.specs.Modules.{SoFar};
-ghost use Rattle.ir_grammar.specs.Texts.{module_at};
 ghost use Rattle.ir_grammar.specs.PassedItems.{to_string, attributes_at, metadata_at, comdat_at, attached_at};
 ghost use Rattle.ir_grammar.specs.Items.{named_type_at, global_at, declaration_at, definition_at, item_at};
 ghost use Rattle.module_laws.specs.Behind.{at_end, BehindParam, BehindBlock, BehindDeclaration, BehindItem};
@@ -22,7 +24,7 @@ ghost use Rattle.module_laws.specs.Heads.{a_param, closed_params, a_head};
 ghost use Rattle.module_laws.specs.Blocks.{some_instructions, a_block, a_body};
 ghost use Rattle.module_laws.specs.Skipped.{up_to_string, some_attributes, some_metadata, a_comdat, some_attached};
 ghost use Rattle.module_laws.specs.ItemsSpelled.{a_named_type, a_global, a_declaration, a_definition, an_item, a_module};
-ghost use Rattle.module_laws.specs.TextLaws.{ReadIsSpelled, SpelledIsRead, OneModule, FaultIsFirst, OneFault, FaultsApart};
+ghost use Rattle.module_laws.specs.TextLaws.{items_module_at, ReadIsSpelled, SpelledIsRead, OneModule, FaultIsFirst, OneFault, FaultsApart};
 
 /// A parameter, before the `,` or `)` that ends it.
 pub fn parameters_are_read()
@@ -104,9 +106,9 @@ pub fn items_are_read()
     ensures { (n : ℕ) (known : Known) (s : SoFar) → Lawful n BehindItem (item_at known s) (an_item known s) }
 {}
 
-/// The items of a whole module.
+/// The items of a whole module with these named types, where the bodies of all definitions are read.
 pub fn modules_are_read()
-    ensures { (n : ℕ) (known : Known) → Lawful n at_end (module_at known) (a_module known) }
+    ensures { (n : ℕ) (types : List (NamedType Name TypeV)) (known : Known) → Lawful n at_end (items_module_at types known) (a_module types known) }
 {}
 
 /// A module that is read of a text is spelled by it.
@@ -124,7 +126,7 @@ pub fn one_module()
     ensures { OneModule }
 {}
 
-/// A text of no module has a first fault, or its fault is where its tokens end.
+/// A text of no module has a first fault, or its fault is where its tokens end, or it is in the body of a definition.
 pub fn faults_are_first()
     ensures { FaultIsFirst }
 {}
@@ -134,7 +136,7 @@ pub fn one_fault()
     ensures { OneFault }
 {}
 
-/// A text with a first fault has none where its tokens end.
+/// A text with a first fault has none where its tokens end, nor one in a body, and one in a body is not where its tokens end.
 pub fn faults_are_apart()
     ensures { FaultsApart }
 {}
