@@ -1,8 +1,9 @@
 //! The commands, up to their answers.
 ghost use Rattle.std.specs.Prelude.{◌≡◌, ◌≢◌, ◌≤◌, ◌++◌, codes, None, IfOk, IfSome};
-ghost use Rattle.seq_run.specs.Outcomes.{outcome_of_run};
+ghost use Rattle.ir_tree.specs.Written.{shown_module};
+ghost use Rattle.code_laws.specs.Runs.{module_outcome};
 ghost use Rattle.plain_commands.specs.Answers.{Answers, ReadsFile, refuses};
-ghost use Rattle.plain_commands.specs.Commands.{RunWanted, CheckWanted, RunsLoaded, ChecksLoaded, run_module, ran, status_of};
+ghost use Rattle.plain_commands.specs.Commands.{RunsLoaded, ChecksLoaded, run_module, ran, status_of, wanted_run, wanted_check};
 
 use crate::answer::{Answer, refusal};
 use crate::loading::{Loaded, load};
@@ -76,8 +77,9 @@ fn status_of(end: End) -> u8
 
 /// What the run of a program on an input is answered.
 fn run_answer(program: &Program, input: &[u8], budget: u64) -> Result<Answer, Memory>
-    ensures { IfOk result (λ a. a ≡ ran program.now (outcome_of_run program.now input.now budget)) }
+    ensures { IfOk result (λ a. a ≡ ran (shown_module program.now) (module_outcome (shown_module program.now) input.now budget)) }
 {
+    program.module().names().is_table();
     let outcome = run(program, input, budget)?;
     let report = report_text(program.alloc(), program.module(), &outcome)?;
     Ok(Answer {
@@ -97,7 +99,7 @@ fn run_program<F: Files>(
 ) -> Result<Answer, Memory>
     ensures content { F.content files.new ≡ F.content files.old }
     ensures later { F.faults files.old ≤ F.faults files.new }
-    ensures answers { IfOk result (λ a. Answers (λ a. IfSome (run_module (F.content files.old) program.now input.now budget None) (λ w. a ≡ w)) (F.faults files.old) (F.faults files.new) a) }
+    ensures answers { IfOk result (λ a. Answers (λ a. IfSome (run_module (F.content files.old) input.now budget (shown_module program.now)) (λ w. a ≡ w)) (F.faults files.old) (F.faults files.new) a) }
     ensures no_usage { IfOk result (λ a. a.status ≢ 4) }
 {
     let mut given = Bytes::new(alloc);
@@ -140,7 +142,7 @@ pub fn run_command<F: Files>(
 ) -> Result<Answer, Memory>
     ensures content { F.content files.new ≡ F.content files.old }
     ensures later { F.faults files.old ≤ F.faults files.new }
-    ensures answers { IfOk result (λ a. Answers (λ a. RunWanted (F.content files.old) code.now input.now budget (λ w. a ≡ w)) (F.faults files.old) (F.faults files.new) a) }
+    ensures answers { IfOk result (λ a. Answers (λ a. IfSome (wanted_run (F.content files.old) code.now input.now budget) (λ w. a ≡ w)) (F.faults files.old) (F.faults files.new) a) }
     ensures no_usage { IfOk result (λ a. a.status ≢ 4) }
 {
     let mut text = Bytes::new(alloc);
@@ -173,7 +175,7 @@ fn check_loaded(alloc: Global, loaded: Loaded) -> Result<Answer, Memory>
 pub fn check_command<F: Files>(alloc: Global, files: &mut F, code: &str) -> Result<Answer, Memory>
     ensures content { F.content files.new ≡ F.content files.old }
     ensures later { F.faults files.old ≤ F.faults files.new }
-    ensures answers { IfOk result (λ a. Answers (λ a. CheckWanted (F.content files.old) code.now (λ w. a ≡ w)) (F.faults files.old) (F.faults files.new) a) }
+    ensures answers { IfOk result (λ a. Answers (λ a. IfSome (wanted_check (F.content files.old) code.now) (λ w. a ≡ w)) (F.faults files.old) (F.faults files.new) a) }
     ensures no_usage { IfOk result (λ a. a.status ≢ 4) }
 {
     let mut text = Bytes::new(alloc);

@@ -1,5 +1,6 @@
 //! From the text of a module to a module that can be run.
 ghost use Rattle.std.specs.Prelude.{◌<◌, ◌^◌, length, IfOk};
+ghost use Rattle.ir_rules.specs.Reading.{IsWellFormed};
 ghost use Rattle.plain_commands.specs.Loading.{IsLoaded, IsJudged};
 
 use ir_checker::faults::find_fault;
@@ -8,7 +9,6 @@ use ir_rules::checked::Checked;
 use ir_tree::whole::Module;
 use pv_base::bytes::Bytes;
 use pv_base::want::Memory;
-use rule_tests::reading::is_well_formed;
 use run_report::refusals::{refused_check, refused_module};
 use std::alloc::Global;
 
@@ -22,14 +22,12 @@ pub enum Loaded {
 
 /// Tests the module that was read of a text.
 fn judge(alloc: Global, tree: Module) -> Result<Loaded, Memory>
+    requires { IsWellFormed tree }
     ensures { IfOk result (IsJudged tree) }
 {
     if let Some(fault) = find_fault(alloc, &tree)? {
         let line = refused_check(alloc, &tree, fault)?;
         return Ok(Loaded::Refused(line));
-    }
-    if !is_well_formed(alloc, &tree)? {
-        return Err(Memory);
     }
     Ok(Loaded::Accepted(Checked::seal(tree)))
 }
@@ -40,7 +38,10 @@ pub fn load(alloc: Global, text: &[u8]) -> Result<Loaded, Memory>
     ensures { IfOk result (IsLoaded text.now) }
 {
     match read_module(alloc, text) {
-        Ok(tree) => judge(alloc, tree),
+        Ok(tree) => {
+            tree.names().is_table();
+            judge(alloc, tree)
+        }
         Err(TextEnd::Memory) => Err(Memory),
         Err(TextEnd::Bad(error)) => {
             let line = refused_module(alloc, &error)?;

@@ -47,7 +47,7 @@ weaker (Some w) P Q h p = h w p
 pub wanted_so : (content : Text → Option Text) (asked : Asked) (a : Answer) (Q : Answer → Type 0) → Q a
     → Wanted content asked (λ w. a ≡ w) → Wanted content asked Q
 wanted_so content asked a Q q w =
-    (w.0, w.1, w.2, weaker (wanted_of content w.0 w.1 asked) (λ x. a ≡ x) Q (λ x is. subst Q is q) w.3)
+    (w.0, weaker (wanted_of content w.0 asked) (λ x. a ≡ x) Q (λ x is. subst Q is q) w.1)
 
 no_five : (n : ℕ) → IsAnswer n → n ≢ 5
 no_five n answer five = grind arith
