@@ -1,5 +1,5 @@
 -- What the commands answer, from how the text of the module is taken.
-use Rattle.std.proofs.Common.{◌≡◌, ◌≢◌, ◌≤◌, ◌<◌, ◌⊎◌, inl, ℕ, refl, sym, ap, subst, [], length, Option, Some, None, IfSome, option_map, Result, Ok, Err, IfOk, Bool, true, false, nat_lt, if◌then◌else◌, arith}
+use Rattle.std.proofs.Common.{◌≡◌, ◌≢◌, ◌≤◌, ◌<◌, ◌⊎◌, inl, ℕ, refl, sym, ◌∙◌, ap, subst, [], length, Option, Some, None, IfSome, option_map, Result, Ok, Err, IfOk, Bool, true, false, nat_lt, if◌then◌else◌, arith}
 use Rattle.std.proofs.lemmas.Bool.{lt-ltb}
 use Rattle.pv_base.specs.Outside.{Text}
 use Rattle.pv_base.specs.declared.want.Memory.{Memory}

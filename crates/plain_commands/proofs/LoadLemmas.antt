@@ -1,6 +1,7 @@
 -- How a text is taken.
-use Rattle.std.proofs.Common.{◌≡◌, sym, ◌∙◌, ap, true, List, Option, Some, None, option_map, Ok, Err}
+use Rattle.std.proofs.Common.{◌≡◌, ◌<◌, ◌^◌, length, sym, ◌∙◌, ap, Option, Some, None, option_map, Result, Ok, Err, IfOk}
 use Rattle.pv_base.specs.Outside.{Text}
+use Rattle.pv_base.specs.declared.want.Memory.{Memory}
 use Rattle.ir_lex.specs.declared.token.ReadError.{ReadError}
 use Rattle.ir_tree.specs.Modules.{Items}
 use Rattle.ir_tree.specs.Table.{IsTable}
@@ -12,6 +13,9 @@ use Rattle.ir_reader.specs.declared.whole.TextEnd.{TextEnd}
 use Rattle.ir_reader.specs.declared.whole.TextEnd.TheVariants.{Bad}
 use Rattle.ir_rules.specs.declared.fault.CheckError.{CheckError}
 use Rattle.ir_rules.specs.Faults.{first_fault}
+use Rattle.ir_rules.specs.Reading.{IsWellFormed}
+use Rattle.ir_rules.proofs.NumberingLemmas.{module_within}
+use Rattle.read_laws.proofs.Texts.{texts_stand}
 use Rattle.run_report.specs.Refusals.{refused_module, refused_check}
 use Rattle.code_laws.specs.Reports.{module_refused}
 use Rattle.code_laws.proofs.Reporting.{refused_same}
@@ -28,6 +32,10 @@ pub judged_is : (text : Text) (m : Items) (loaded : Loaded) → read_of text ≡
 judged_is text m (Accepted c) is judged = rw judged.0 (is, judged.1)
 judged_is text m (Refused line) is judged = ap refusal_by is ∙ sym judged
 
+pub judged_so : (text : Text) (m : Items) (r : Result Loaded Memory) → read_of text ≡ Ok (shown_module m) → IfOk r (IsJudged m) → IfOk r (IsLoaded text)
+judged_so text m (Ok loaded) is judged = judged_is text m loaded is judged
+judged_so text m (Err e) is judged = tt
+
 -- the fault with which the reading of a text ended
 pub bad_read : (text : Text) (end : TextEnd) (e : ReadError) → end ≡ Bad e → IsReading (Err end) (read_of text) → read_of text ≡ Err e
 bad_read text end e is reading = rw is at reading
@@ -35,3 +43,7 @@ bad_read text end e is reading = rw is at reading
 -- a text that has a fault
 pub faulty_is : (text : Text) (e : ReadError) (line : Text) → read_of text ≡ Err e → line ≡ refused_module e → IsLoaded text (Refused line)
 faulty_is text e line is said = ap refusal_by is ∙ ap Some (sym said)
+
+-- what was read is well formed
+pub read_well : (text : Text) (m : Items) → length text < 2 ^ 32 → IsTable m.names → read_of text ≡ Ok (shown_module m) → StaysSame m → IsWellFormed m
+read_well text m short table is stays = record { within = module_within m table stays; stands = texts_stand text (shown_module m) is short }

@@ -17,3 +17,4 @@ pub mod Counts
 pub mod Named
 pub mod Lengths
 pub mod Texts
+mod SmallNumbers

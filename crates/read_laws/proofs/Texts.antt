@@ -1,6 +1,6 @@
 -- What reading a whole text keeps.
 use Rattle.std.proofs.Common.{◌≡◌, ◌<◌, ℕ, Bool, true, List, [], ◌∷◌, length, Option, Some, None, Ok, Err, refl, subst, ◌∙◌, arith}
-use Rattle.std.specs.Prelude.{◌^◌, ◌++◌, nat_lt, map, flat_map}
+use Rattle.std.specs.Prelude.{◌^◌, ◌++◌, ◌&&◌, nat_lt, map, flat_map, is_some}
 use Rattle.std.proofs.lemmas.Bool.{ltb-true}
 use Rattle.std.proofs.lemmas.List.Folds.{list_all-append}
 use Rattle.ir_rules.specs.Defining.{defined}
@@ -12,9 +12,10 @@ use Rattle.ir_tree.specs.declared.items.NamedType.{NamedType}
 use Rattle.ir_tree.specs.Trees.{TypeV}
 use Rattle.ir_text.specs.declared.fault.Fault.TheVariants.{At, Ended}
 use Rattle.ir_text.specs.Tokens.{TokenV}
-use Rattle.ir_text.specs.Reading.{Outcome}
-use Rattle.ir_grammar.specs.Items.{items_at}
-use Rattle.ir_grammar.specs.NamedTypes.{types_in, known_in}
+use Rattle.ir_text.specs.Reading.{Outcome, ◌>>=◌}
+use Rattle.ir_text.specs.Types.{Known}
+use Rattle.ir_grammar.specs.Items.{items_at, named_body_at}
+use Rattle.ir_grammar.specs.NamedTypes.{definitions, named_only, unless_faulty, bodies_read, bodies_in, types_in, known_in}
 use Rattle.ir_grammar.specs.Texts.{last_line, unless_fault, settled, module_at, read_tokens, read_of}
 use Rattle.ir_rules.specs.Reading.{function_stands, instruction_stands, constants_stand, counts_stand, name_stands, type_names, global_names, defined_names}
 use Rattle.ir_rules.specs.Seen.{InstructionV, BlockV, FunctionV, ModuleV}
@@ -29,6 +30,7 @@ use Rattle.read_laws.proofs.Instructions as laws
 use Rattle.read_laws.proofs.Items.{all_items_stand}
 use Rattle.read_laws.proofs.Lengths.{read_few}
 use Rattle.read_laws.proofs.Named.{texts_describe, types_stand}
+use Rattle.read_laws.proofs.SmallNumbers.{names_small}
 use Rattle.read_laws.proofs.Steps.{Gives, gives, then}
 
 abbrev Types : Type 0
@@ -99,15 +101,35 @@ record Nearly (v : ModuleV) : Type 0 where
 abbrev NearlyAt : ModuleV × List TokenV → Type 0
 NearlyAt x = Nearly x.0
 
-module_is : (ts : List TokenV) → BodiesAreRead ts → length ts < 2 ^ 32 → Gives NearlyAt (module_at (types_in ts) (known_in ts) ts)
-module_is ts all short = then NearlyAt (items_at (known_in ts) ts) _ (λ items e. gives NearlyAt _ (
+abbrev is_read : Name × Option TypeV → Bool
+is_read b = is_some b.1
+
+-- the bodies that are read one after the other are read each
+bodies_each : (known : Known) (ds : List (Name × List TokenV)) (x : Unit {0} × List TokenV) → bodies_read known ds ≡ Ok x
+    → list_all is_read (map (λ d. (d.0, unless_faulty (named_body_at known d.1))) ds) ≡ true
+unfolding bodies_read
+bodies_each known [] x e = refl
+bodies_each known (d ∷ ds) x e = by_body (named_body_at known d.1) (λ f. bodies_each known ds x f) e
+  where
+    by_body : (o : Outcome TypeV) → (bodies_read known ds ≡ Ok x → list_all is_read (map (λ c. (c.0, unless_faulty (named_body_at known c.1))) ds) ≡ true)
+        → (o >>= λ of. bodies_read known ds) ≡ Ok x → (is_some (unless_faulty o) && list_all is_read (map (λ c. (c.0, unless_faulty (named_body_at known c.1))) ds)) ≡ true
+    by_body (Ok of) rest f = rest f
+    by_body (Err fault) rest f = absurd cc
+
+bodies_are_read : (ts : List TokenV) (x : Unit {0} × List TokenV) → bodies_in ts ≡ Ok x → BodiesAreRead ts
+unfolding bodies_in
+bodies_are_read ts x e = bodies_each (named_only (definitions ts)) (definitions ts) x e
+
+module_is : (ts : List TokenV) → length ts < 2 ^ 32 → Gives NearlyAt (module_at (types_in ts) (bodies_in ts) (known_in ts) ts)
+module_is ts short = then NearlyAt (items_at (known_in ts) ts) _ (λ items e. then NearlyAt (bodies_in ts) _ (λ bodies read. gives NearlyAt _ (
+    let all = bodies_are_read ts bodies read in
     let i = all_items_stand (known_in ts) (types_in ts) ts items.1 items.0 (texts_describe ts all) e in
     let f = items_few (known_in ts) ts items.1 items.0 short e in
     record {
       types = types_stand ts;
       items = record { names = i.names; layouts = i.layouts; initialisers = i.initialisers; sizes = i.sizes; functions = i.functions };
       few = record { globals = f.globals; functions = f.functions; counts = f.counts; names = f.names };
-    }))
+    })))
 
 unfaulted : (fault : Option ReadError) (x v : ModuleV) → unless_fault fault x ≡ Ok v → x ≡ v
 unfaulted None x v e = cc
@@ -118,19 +140,19 @@ settled_is last fault (Ok x) v g e = subst Nearly (unfaulted fault x.0 v e) (g.h
 settled_is last fault (Err (At line cause)) v g e = absurd cc
 settled_is last fault (Err Ended) v g e = absurd cc
 
-read_is : (text : List ℕ) (v : ModuleV) → read_of text ≡ Ok v → BodiesAreRead (read_tokens text) → length (read_tokens text) < 2 ^ 32 → Nearly v
+read_is : (text : List ℕ) (v : ModuleV) → read_of text ≡ Ok v → length (read_tokens text) < 2 ^ 32 → Nearly v
 unfolding read_of
-read_is text v e all short =
+read_is text v e short =
     let ts = read_tokens text in
-    settled_is (last_line text) (lexed text).fault (module_at (types_in ts) (known_in ts) ts) v (module_is ts all short) e
+    settled_is (last_line text) (lexed text).fault (module_at (types_in ts) (bodies_in ts) (known_in ts) ts) v (module_is ts short) e
 
 pub texts_stand : TextsStand
-texts_stand text v e all short names =
+texts_stand text v e short =
     let few = read_few text in
     let fewer : length (read_tokens text) < 2 ^ 32 = omega arith in
-    let n = read_is text v e all fewer in
+    let n = read_is text v e fewer in
     record {
-      names = all_names v names (function_names v.types v.functions n.items.functions n.few.names);
+      names = all_names v (names_small text v e) (function_names v.types v.functions n.items.functions n.few.names);
       structs = n.types.structs;
       bodies = n.types.bodies;
       type_names = n.types.names;
