@@ -6,14 +6,10 @@ pub mod function;
 pub mod global;
 pub mod item;
 pub mod named;
-#[cfg(test)]
-mod named_tests;
 pub mod names;
 pub mod params;
 pub mod records;
 pub mod scope;
 pub mod skipped;
 pub mod so_far;
-#[cfg(test)]
-mod tests;
 pub mod whole;

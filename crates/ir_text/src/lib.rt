@@ -1,8 +1,6 @@
 //! The ground of reading module text: tokens in hand, single tokens, what is passed over, types, constants and operands.
 #![tactic(auto)]
 
-#[cfg(test)]
-mod constant_tests;
 pub mod constants;
 pub mod cursor;
 pub mod fault;
@@ -18,6 +16,4 @@ pub mod operands;
 pub mod passed;
 pub mod promises;
 pub mod tails;
-#[cfg(test)]
-mod tests;
 pub mod types;
