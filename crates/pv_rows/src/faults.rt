@@ -83,103 +83,104 @@ fn texts_are_refused(rt: HostRuntime) -> Result<(), Fail> {
     Ok(())
 }
 
+/// Bodies of main, each with its cause and place.
+const REFUSED_BODIES: &[(&str, &str)] = &[
+    ("  ret i32 %x\n", "unknown-name @main:0"),
+    ("  br label %x\n", "unknown-name @main:0"),
+    (
+        "  %x = icmp eq i32 0, 0\n  ret i32 %x\n",
+        "type-differs @main:1",
+    ),
+    ("  %x = add i32 0, 0\n", "terminator @main:0"),
+    ("a:\n  br label %a\n", "entry-has-preds @main:0"),
+    (
+        "a:\n  br label %b\nb:\n  %x = phi i32 [ 0, %b ]\n  ret i32 %x\n",
+        "phi-edges @main:1",
+    ),
+    (
+        "  br label %b\nb:\n  %x = alloca i32\n  ret i32 0\n",
+        "alloca-place @main:1",
+    ),
+    (
+        "  %x = call i32 @frob()\n  ret i32 %x\n}\ndeclare i32 @frob()\ndefine void @f() {\n  ret void\n",
+        "external @main:0",
+    ),
+    ("  call void @main()\n  ret i32 0\n", "type-differs @main:0"),
+    ("entry:\n  ret i32 %entry\n", "unknown-name @main:0"),
+    (
+        "  %x = add i32 1, 2\n  br label %x\n",
+        "unknown-name @main:1",
+    ),
+    (
+        "  call i32 @putchar(i32 65)\n  ret i32 0\n",
+        "unknown-name @main:0",
+    ),
+    ("  %x = add i8 1, 2\n  ret i32 %x\n", "type-differs @main:1"),
+    (
+        "  %x = add i8 1, 2\n  %y = add i32 %x, 1\n  ret i32 0\n",
+        "type-differs @main:1",
+    ),
+    (
+        "  %x = add i32 1, 2\n  br i1 %x, label %a, label %a\na:\n  ret i32 0\n",
+        "type-differs @main:1",
+    ),
+    ("  ret i8 0\n", "type-differs @main:0"),
+    ("  ret i32 0\n  ret i32 0\n", "terminator @main:0"),
+    ("a:\nb:\n  ret i32 0\n", "terminator @main:0"),
+    (
+        "a:\n  br label %b\nb:\n  br i1 0, label %a, label %b\n",
+        "entry-has-preds @main:1",
+    ),
+    (
+        "a:\n  br label %b\nb:\n  %x = add i32 1, 2\n  %p = phi i32 [ 0, %a ]\n  ret i32 0\n",
+        "phi-edges @main:2",
+    ),
+    (
+        "a:\n  %p = phi i32 [ 0, %a ]\n  ret i32 0\n",
+        "phi-edges @main:0",
+    ),
+    (
+        "a:\n  br label %b\nb:\n  %p = phi i32 [ 0, %c ]\n  ret i32 0\nc:\n  ret i32 0\n",
+        "phi-edges @main:1",
+    ),
+    (
+        "a:\n  br i1 1, label %b, label %c\nb:\n  br label %c\nc:\n  %p = phi i32 [ 0, %a ]\n  ret i32 0\n",
+        "phi-edges @main:2",
+    ),
+    (
+        "a:\n  br i1 1, label %b, label %b\nb:\n  %p = phi i32 [ 0, %a ], [ 1, %a ]\n  ret i32 0\n",
+        "phi-edges @main:1",
+    ),
+    (
+        "a:\n  br label %b\nb:\n  %p = phi i8 [ 0, %a ]\n  ret i32 %p\n",
+        "type-differs @main:2",
+    ),
+    (
+        "  %x = icmp eq i8 0, 0\n  %y = add i32 %z, %x\n  ret i32 0\n",
+        "unknown-name @main:1",
+    ),
+    (
+        "  %x = add i8 1, 2\n  %y = add i32 %x, 1\n  ret i32 %z\n",
+        "type-differs @main:1",
+    ),
+    (
+        "  switch i32 0, label %a [ i32 1, label %b ]\na:\n  ret i32 0\n",
+        "unknown-name @main:0",
+    ),
+    (
+        "  %n = add i32 1, 0\n  %p = alloca i8, i32 %n\n  ret i32 0\n",
+        "alloca-place @main:1",
+    ),
+    (
+        "  call void @llvm.memset.p0.i64(ptr null, i8 0, i64 0, i1 true)\n  ret i32 0\n}\ndeclare void @llvm.memset.p0.i64(ptr, i8, i64, i1)\ndefine void @f() {\n  ret void\n",
+        "external @main:0",
+    ),
+];
+
 #[test]
 fn modules_are_refused(rt: HostRuntime) -> Result<(), Fail> {
     let alloc = rt.alloc();
-    // body of main; cause and place
-    let rows: [(&str, &str); 30] = [
-        ("  ret i32 %x\n", "unknown-name @main:0"),
-        ("  br label %x\n", "unknown-name @main:0"),
-        (
-            "  %x = icmp eq i32 0, 0\n  ret i32 %x\n",
-            "type-differs @main:1",
-        ),
-        ("  %x = add i32 0, 0\n", "terminator @main:0"),
-        ("a:\n  br label %a\n", "entry-has-preds @main:0"),
-        (
-            "a:\n  br label %b\nb:\n  %x = phi i32 [ 0, %b ]\n  ret i32 %x\n",
-            "phi-edges @main:1",
-        ),
-        (
-            "  br label %b\nb:\n  %x = alloca i32\n  ret i32 0\n",
-            "alloca-place @main:1",
-        ),
-        (
-            "  %x = call i32 @frob()\n  ret i32 %x\n}\ndeclare i32 @frob()\ndefine void @f() {\n  ret void\n",
-            "external @main:0",
-        ),
-        ("  call void @main()\n  ret i32 0\n", "type-differs @main:0"),
-        ("entry:\n  ret i32 %entry\n", "unknown-name @main:0"),
-        (
-            "  %x = add i32 1, 2\n  br label %x\n",
-            "unknown-name @main:1",
-        ),
-        (
-            "  call i32 @putchar(i32 65)\n  ret i32 0\n",
-            "unknown-name @main:0",
-        ),
-        ("  %x = add i8 1, 2\n  ret i32 %x\n", "type-differs @main:1"),
-        (
-            "  %x = add i8 1, 2\n  %y = add i32 %x, 1\n  ret i32 0\n",
-            "type-differs @main:1",
-        ),
-        (
-            "  %x = add i32 1, 2\n  br i1 %x, label %a, label %a\na:\n  ret i32 0\n",
-            "type-differs @main:1",
-        ),
-        ("  ret i8 0\n", "type-differs @main:0"),
-        ("  ret i32 0\n  ret i32 0\n", "terminator @main:0"),
-        ("a:\nb:\n  ret i32 0\n", "terminator @main:0"),
-        (
-            "a:\n  br label %b\nb:\n  br i1 0, label %a, label %b\n",
-            "entry-has-preds @main:1",
-        ),
-        (
-            "a:\n  br label %b\nb:\n  %x = add i32 1, 2\n  %p = phi i32 [ 0, %a ]\n  ret i32 0\n",
-            "phi-edges @main:2",
-        ),
-        (
-            "a:\n  %p = phi i32 [ 0, %a ]\n  ret i32 0\n",
-            "phi-edges @main:0",
-        ),
-        (
-            "a:\n  br label %b\nb:\n  %p = phi i32 [ 0, %c ]\n  ret i32 0\nc:\n  ret i32 0\n",
-            "phi-edges @main:1",
-        ),
-        (
-            "a:\n  br i1 1, label %b, label %c\nb:\n  br label %c\nc:\n  %p = phi i32 [ 0, %a ]\n  ret i32 0\n",
-            "phi-edges @main:2",
-        ),
-        (
-            "a:\n  br i1 1, label %b, label %b\nb:\n  %p = phi i32 [ 0, %a ], [ 1, %a ]\n  ret i32 0\n",
-            "phi-edges @main:1",
-        ),
-        (
-            "a:\n  br label %b\nb:\n  %p = phi i8 [ 0, %a ]\n  ret i32 %p\n",
-            "type-differs @main:2",
-        ),
-        (
-            "  %x = icmp eq i8 0, 0\n  %y = add i32 %z, %x\n  ret i32 0\n",
-            "unknown-name @main:1",
-        ),
-        (
-            "  %x = add i8 1, 2\n  %y = add i32 %x, 1\n  ret i32 %z\n",
-            "type-differs @main:1",
-        ),
-        (
-            "  switch i32 0, label %a [ i32 1, label %b ]\na:\n  ret i32 0\n",
-            "unknown-name @main:0",
-        ),
-        (
-            "  %n = add i32 1, 0\n  %p = alloca i8, i32 %n\n  ret i32 0\n",
-            "alloca-place @main:1",
-        ),
-        (
-            "  call void @llvm.memset.p0.i64(ptr null, i8 0, i64 0, i1 true)\n  ret i32 0\n}\ndeclare void @llvm.memset.p0.i64(ptr, i8, i64, i1)\ndefine void @f() {\n  ret void\n",
-            "external @main:0",
-        ),
-    ];
-    for (body, why) in &rows {
+    for (body, why) in REFUSED_BODIES {
         let module = main_of(alloc, body)?;
         let wanted = joined(alloc, &["3 |refused check ", why, "\n"])?;
         let told = check(alloc, module.as_slice())?;

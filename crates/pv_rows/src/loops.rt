@@ -87,118 +87,119 @@ const ECHO_ITEMS: &str = "declare i32 @getchar()\ndeclare i32 @putchar(i32)\n";
 const ECHO: &str =
     "  %g = call i32 @getchar()\n  %o = call i32 @putchar(i32 %g)\n  br label %latch\n";
 
+/// Items, turns, body, input and budget, each with the answer.
+const RUNS: &[(&str, &str, &str, &str, &str, &str)] = &[
+    (
+        TABLE_ITEMS,
+        "0",
+        TABLE,
+        "",
+        "99",
+        "0 |ended 0 steps 4\nglobal @scratch 00000000000000000000000000000000000000000000000000000000000000000000000000000000000000000000000000000000000000000000000000000000\n",
+    ),
+    (
+        LATER_ITEMS,
+        "10",
+        LATER,
+        "",
+        "1000",
+        "0 A|ended 0 steps 88\nglobal @a 41\n",
+    ),
+    (
+        LATER_ITEMS,
+        "10",
+        EARLIER,
+        "",
+        "1000",
+        "0 \0|ended 0 steps 88\nglobal @a 41\n",
+    ),
+    (
+        COUNT_ITEMS,
+        "4",
+        COUNT,
+        "",
+        "1000",
+        "0 |ended 0 steps 36\nglobal @n 60000000\n",
+    ),
+    (
+        COUNT_ITEMS,
+        "4",
+        COUNT,
+        "",
+        "36",
+        "0 |ended 0 steps 36\nglobal @n 60000000\n",
+    ),
+    (
+        COUNT_ITEMS,
+        "4",
+        COUNT,
+        "",
+        "35",
+        "2 |spent 35\nglobal @n 60000000\n",
+    ),
+    (
+        COUNT_ITEMS,
+        "20",
+        COUNT,
+        "",
+        "1000",
+        "0 |ended 0 steps 164\nglobal @n 50000000\n",
+    ),
+    (
+        "@n = global i32 2147483646\n",
+        "4",
+        PAST_RANGE,
+        "",
+        "1000",
+        "1 |trapped overflow @main:5 steps 13\nglobal @n ffffff7f\n",
+    ),
+    (
+        LIST_ITEMS,
+        "6",
+        LIST,
+        "",
+        "1000",
+        "0 |ended 0 steps 88\nglobal @list 0000000000000000\nglobal @tail <7+0>\n",
+    ),
+    (
+        "declare ptr @malloc(i64)\ndeclare void @free(ptr)\n",
+        "600",
+        KEEP_ONE,
+        "",
+        "9999",
+        "0 |ended 0 steps 6002\n",
+    ),
+    ("", "100", LEAVE, "", "1000", "0 |ended 0 steps 246\n"),
+    (
+        THROUGH_ITEMS,
+        "3",
+        THROUGH,
+        "",
+        "1000",
+        "0 BB|ended 0 steps 32\nglobal @a 42000000\nglobal @cur <0+0>\n",
+    ),
+    (
+        ECHO_ITEMS,
+        "3",
+        ECHO,
+        "xyz",
+        "1000",
+        "0 xyz|ended 0 steps 25\n",
+    ),
+    (
+        ECHO_ITEMS,
+        "2",
+        ECHO,
+        "x",
+        "1000",
+        "0 x\u{FFFD}|ended 0 steps 18\n",
+    ),
+];
+
 #[test]
 fn runs(rt: HostRuntime) -> Result<(), Fail> {
     let alloc = rt.alloc();
-    // items, turns, body, input, budget; the answer
-    let rows: [(&str, &str, &str, &str, &str, &str); 14] = [
-        (
-            TABLE_ITEMS,
-            "0",
-            TABLE,
-            "",
-            "99",
-            "0 |ended 0 steps 4\nglobal @scratch 00000000000000000000000000000000000000000000000000000000000000000000000000000000000000000000000000000000000000000000000000000000\n",
-        ),
-        (
-            LATER_ITEMS,
-            "10",
-            LATER,
-            "",
-            "1000",
-            "0 A|ended 0 steps 88\nglobal @a 41\n",
-        ),
-        (
-            LATER_ITEMS,
-            "10",
-            EARLIER,
-            "",
-            "1000",
-            "0 \0|ended 0 steps 88\nglobal @a 41\n",
-        ),
-        (
-            COUNT_ITEMS,
-            "4",
-            COUNT,
-            "",
-            "1000",
-            "0 |ended 0 steps 36\nglobal @n 60000000\n",
-        ),
-        (
-            COUNT_ITEMS,
-            "4",
-            COUNT,
-            "",
-            "36",
-            "0 |ended 0 steps 36\nglobal @n 60000000\n",
-        ),
-        (
-            COUNT_ITEMS,
-            "4",
-            COUNT,
-            "",
-            "35",
-            "2 |spent 35\nglobal @n 60000000\n",
-        ),
-        (
-            COUNT_ITEMS,
-            "20",
-            COUNT,
-            "",
-            "1000",
-            "0 |ended 0 steps 164\nglobal @n 50000000\n",
-        ),
-        (
-            "@n = global i32 2147483646\n",
-            "4",
-            PAST_RANGE,
-            "",
-            "1000",
-            "1 |trapped overflow @main:5 steps 13\nglobal @n ffffff7f\n",
-        ),
-        (
-            LIST_ITEMS,
-            "6",
-            LIST,
-            "",
-            "1000",
-            "0 |ended 0 steps 88\nglobal @list 0000000000000000\nglobal @tail <7+0>\n",
-        ),
-        (
-            "declare ptr @malloc(i64)\ndeclare void @free(ptr)\n",
-            "600",
-            KEEP_ONE,
-            "",
-            "9999",
-            "0 |ended 0 steps 6002\n",
-        ),
-        ("", "100", LEAVE, "", "1000", "0 |ended 0 steps 246\n"),
-        (
-            THROUGH_ITEMS,
-            "3",
-            THROUGH,
-            "",
-            "1000",
-            "0 BB|ended 0 steps 32\nglobal @a 42000000\nglobal @cur <0+0>\n",
-        ),
-        (
-            ECHO_ITEMS,
-            "3",
-            ECHO,
-            "xyz",
-            "1000",
-            "0 xyz|ended 0 steps 25\n",
-        ),
-        (
-            ECHO_ITEMS,
-            "2",
-            ECHO,
-            "x",
-            "1000",
-            "0 x\u{FFFD}|ended 0 steps 18\n",
-        ),
-    ];
-    for (items, turns, body, input, budget, wanted) in &rows {
+    for (items, turns, body, input, budget, wanted) in RUNS {
         let module = turning(alloc, items, turns, body)?;
         let told = run(alloc, module.as_slice(), input, budget)?;
         assert_eq!(rt; told.as_str(), *wanted);
