@@ -32,6 +32,14 @@ const ITEMS: &[(&str, &str)] = &[
     ),
     ("%T = type { %T }\n", "%T = type { %T }\n"),
     (
+        "!0 = !{ %T = type { i8 } }\n@a = global %T zeroinitializer\n",
+        "%T = type { i8 }\n@a = global %T zeroinitializer\n",
+    ),
+    (
+        "%T = type { i8 }\n!0 = !{ %T = type { i64 } }\n",
+        "%T = type { i8 }\n",
+    ),
+    (
         "@a = private constant [2 x i8] c\"x\\00\", align 1\n@b = external global i32 7",
         "@a = constant [2 x i8] c\"x\\00\"\n@b = global i32 7\n",
     ),

@@ -15,9 +15,9 @@ fn said(rt: &impl Abort, alloc: Global, text: &[u8]) -> Result<Option<NamedBody>
     assert!(rt; text.len() < 2_000_000);
     let lexed = tokens(alloc, text)?;
     let mut names = Names::new(alloc);
-    let known = known_in(alloc, text, lexed.tokens.as_slice(), &mut names)?;
+    let found = known_in(alloc, text, lexed.tokens.as_slice(), &mut names)?;
     let name = Name::Named(Bytes::from_slice(alloc, b"a")?);
-    Ok(known.body(&name))
+    Ok(found.known.body(&name))
 }
 
 /// Size and alignment of `%a`, with `?` where it has no layout, and `!` where there is a fault in its body.
