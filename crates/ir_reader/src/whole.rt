@@ -92,11 +92,7 @@ fn settle(
 }
 
 /// Reads the module of all items, among the named types of the whole text.
-fn module_of(
-    cursor: &mut Cursor<'_>,
-    mut names: Names,
-    named: TextTypes,
-) -> Result<Module, ReadEnd>
+fn module_of(cursor: &mut Cursor<'_>, mut names: Names, named: TextTypes) -> Result<Module, ReadEnd>
     requires bodies { AreTypes names named.known }
     requires within { All (NamedWithin names) named.types }
     ensures reads { (types : List (NamedType Name TypeV)) (bodies : Outcome (Unit {0})) (known : Known) → ((later : Table) → Grows names later → named_types later named.types ≡ types) → named.fault ≡ fault_in bodies → ((later : Table) → Grows names later → known_of later named.known ≡ known) → Reads shown_module cursor.new result (module_at types bodies known cursor.old) }
@@ -110,13 +106,7 @@ fn module_of(
     let read = read_items(cursor, &mut names, &known)?;
     match fault {
         Some(fault) => Err(ReadEnd::Bad(fault)),
-        None => Ok(Module::new(
-            cursor.alloc(),
-            names,
-            types,
-            read.globals,
-            read.functions,
-        )?),
+        None => Ok(Module::new(cursor.alloc(), names, types, read.globals, read.functions)?),
     }
 }
 

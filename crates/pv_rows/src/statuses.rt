@@ -1,9 +1,9 @@
 //! The status that each list of words, each file and each sink gives.
+use privateer_core::top::plain_top;
 use pv_base::bytes::Bytes;
 use pv_base::in_memory::{MemFiles, MemSink};
 use pv_base::list::List;
 use pv_base::want::Memory;
-use privateer_core::top::plain_top;
 use std::alloc::Global;
 use std::test::Fail;
 

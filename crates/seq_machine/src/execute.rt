@@ -20,7 +20,9 @@ use seq_effects::addresses::address;
 use seq_effects::flow::{branch, call, call_pointer, end, switch};
 use seq_effects::numbers::{calculate, compare_operands, convert, freeze, select};
 use seq_effects::state::{Effect, Frame};
-use seq_externals::externals::{calloc, exit, extreme, free, getchar, malloc, memset, putchar, transfer};
+use seq_externals::externals::{
+    calloc, exit, extreme, free, getchar, malloc, memset, putchar, transfer,
+};
 use seq_externals::texts::{printf, puts};
 
 /// A trap as a fault.

@@ -10,8 +10,8 @@ use ir_code::code::Code;
 use mem_image::image::Image;
 use pv_base::list::List;
 use pv_base::want::Memory;
-use seq_machine::machine::step;
 use seq_effects::state::Frame;
+use seq_machine::machine::step;
 use seq_machine::state::{Header, State, Step, Stop};
 
 /// There are so many numbers.

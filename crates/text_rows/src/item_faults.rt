@@ -165,7 +165,10 @@ const PASSED_ITEMS: &[(&str, &str)] = &[
     ("!0 !{}", "1 operand"),
     ("!{} = !{}", "1 operand"),
     ("!0 = !{\n", "1 end"),
-    ("!0 = !{\n%x = type frob }\n@y = global i8 0\n", "2 bad-type"),
+    (
+        "!0 = !{\n%x = type frob }\n@y = global i8 0\n",
+        "2 bad-type",
+    ),
     ("!0 = !{\n%x = type frob }\n@y = global i65 0\n", "3 width"),
     (
         "!0 = !{ 340282366920938463463374607431768211456 }",

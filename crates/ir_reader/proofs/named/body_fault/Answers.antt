@@ -22,12 +22,12 @@ loop-rest-preserved c = record {
   so_far = λ all same.
       let front = tokens_front c.args.text.now c.loop-rest.rest.now no_token c.in-len1-up.len_at_least in
       elim c.match-branch-2.branch [
-        in-Some+in-Ok w ↦
+        | in-Some+in-Ok w ↦
             let names = w.named_body.new.names in
             let at = definition_is _ c.new-cursor.result c.defined_name.new.cursor c.in_ok-defined_name.field-0 w.in-Some.field-0 c.new-cursor.ensures c.in_ok-defined_name.ensures w.in-Some.is in
             let read = read_among (known_of names c.args.known.now) all c.defined_name.new.cursor _ (same names) (w.in-Ok.ensures.reads names (same_table names)) in
             sound_here all (tokens_of c.args.text.now c.loop-rest.rest.now) _ _ w.in-Some.field-0 c.defined_name.new.cursor _ front at read ∙ c.loop-rest.invariant.so_far all same
-      | in-None w ↦
+        | in-None w ↦
             sound_later_on all (tokens_of c.args.text.now c.loop-rest.rest.now) _ _ front
             (no_definition _ c.new-cursor.result c.defined_name.new.cursor c.in_ok-defined_name.field-0 c.new-cursor.ensures c.in_ok-defined_name.ensures w.in-None.is)
             ∙ c.loop-rest.invariant.so_far all same

@@ -34,8 +34,8 @@ pub returns-in_ok-new-in-None-clause-stays : goal.returns-in_ok-new-in-None-clau
 returns-in_ok-new-in-None-clause-stays c = λ types all shown same.
     let names = c.read_items.new.names in
     let stays : StaysSame (record { names = names; types = c.args.named.types; globals = c.in_ok-read.read.globals; functions = c.in_ok-read.read.functions }) = λ later grows.
-        let before = grows_then c.args.names names later c.in_ok-read.ensures.grows grows in
-        module_same names later c.args.named.types c.in_ok-read.read (shown later before ∙ sym (shown names c.in_ok-read.ensures.grows))
-        (so_far_same (known_of later c.args.named.known) (known_of names c.args.named.known) all (so_far_at later c.in_ok-read.read) (so_far_at names c.in_ok-read.read) c.args.cursor.now c.read_items.new.cursor (same later before) (same names c.in_ok-read.ensures.grows)
-        (c.in_ok-read.ensures.reads later grows) (c.in_ok-read.ensures.reads names (same_table names)))
+    let before = grows_then c.args.names names later c.in_ok-read.ensures.grows grows in
+    module_same names later c.args.named.types c.in_ok-read.read (shown later before ∙ sym (shown names c.in_ok-read.ensures.grows))
+    (so_far_same (known_of later c.args.named.known) (known_of names c.args.named.known) all (so_far_at later c.in_ok-read.read) (so_far_at names c.in_ok-read.read) c.args.cursor.now c.read_items.new.cursor (same later before) (same names c.in_ok-read.ensures.grows)
+    (c.in_ok-read.ensures.reads later grows) (c.in_ok-read.ensures.reads names (same_table names)))
     in rw c.in_ok-new-in-None.ensures stays
