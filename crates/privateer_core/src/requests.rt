@@ -16,6 +16,7 @@ use std::alloc::Global;
 const USAGE: u8 = 4;
 
 /// What a request is answered.
+#[tactic(auto, using(crate::proofs::RequestLemmas::run_asked, crate::proofs::RequestLemmas::check_asked))]
 fn answer_request<F: Files>(
     alloc: Global,
     files: &mut F,
