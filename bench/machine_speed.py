@@ -108,6 +108,46 @@ done:
 }}
 """
 
+# Four times `objects` objects are made, and then freed: STEP is how far from one to the next that is freed.
+FREED = """declare ptr @malloc(i64)
+declare void @free(ptr)
+define i32 @main() {{
+entry:
+  %all = zext i32 {objects} to i64
+  %bytes = mul i64 %all, 8
+  %t = call ptr @malloc(i64 %bytes)
+  br label %round
+round:
+  %n = phi i32 [ 0, %entry ], [ %m, %again ]
+  br label %make
+make:
+  %i = phi i32 [ 0, %round ], [ %j, %make ]
+  %p = call ptr @malloc(i64 1)
+  %q = getelementptr ptr, ptr %t, i32 %i
+  store ptr %p, ptr %q
+  %j = add i32 %i, 1
+  %c = icmp ult i32 %j, {objects}
+  br i1 %c, label %make, label %drop
+drop:
+  %k = phi i32 [ 0, %make ], [ %l, %drop ]
+  %at = phi i32 [ 0, %make ], [ %next, %drop ]
+  %r = getelementptr ptr, ptr %t, i32 %at
+  %o = load ptr, ptr %r
+  call void @free(ptr %o)
+  %sum = add i32 %at, STEP
+  %next = urem i32 %sum, {objects}
+  %l = add i32 %k, 1
+  %d = icmp ult i32 %l, {objects}
+  br i1 %d, label %drop, label %again
+again:
+  %m = add i32 %n, 1
+  %e = icmp ult i32 %m, 4
+  br i1 %e, label %round, label %done
+done:
+  ret i32 0
+}}
+"""
+
 CALLS = """define i32 @down(i32 %n) {{
 entry:
   %z = icmp eq i32 %n, 0
@@ -141,6 +181,9 @@ LOOPS = [
     ("load and store", LOADS),
     ("table, printf", TABLE),
     ("malloc and free", OBJECTS),
+    ("freed in order", FREED.replace("STEP", "1")),
+    ("freed in reverse", FREED.replace("STEP", "{back}")),
+    ("freed at random", FREED.replace("STEP", "514229")),
     ("calls 1000 deep", CALLS),
 ]
 
@@ -168,7 +211,8 @@ def main():
         for name, text in LOOPS:
             for factor in (1, 2, 4, 8):
                 with open(module, "w") as file:
-                    file.write(text.format(turns=turns * factor))
+                    count = turns * factor
+                    file.write(text.format(turns=count, objects=count // 8, back=count // 8 - 1))
                 command = [PROGRAM, "run", module, empty, "--budget", "1000000000"]
                 ran = subprocess.run(command, stdout=subprocess.DEVNULL, stderr=subprocess.PIPE, text=True)
                 end = ran.stderr.split("\n")[0]
