@@ -14,15 +14,18 @@ use Rattle.ir_text.specs.declared.fault.Fault.TheVariants.{At, Ended}
 use Rattle.ir_text.specs.Tokens.{TokenV, among, is_refused, blamed}
 use Rattle.ir_text.specs.Constants.{integer_in, word_constant}
 use Rattle.ir_text.specs.NestedConstants.{constant_at, constant_to, constant_rule}
-use Rattle.ir_text.specs.Passed.{may_pass, passed_at, is_int_word, stops_at}
+use Rattle.ir_text.specs.Passed.{may_pass, passed_at, is_int_word, stops_at, group_from}
 use Rattle.ir_text.specs.Reading.{token_by, next_is}
 use Rattle.ir_text.specs.Repeated.{repeated_to, repeated_under}
-use Rattle.ir_text.specs.Types.{Known, int_type, word_type}
+use Rattle.ir_text.specs.Types.{Known, int_type, word_type, type_rule, type_to, type_at}
+use Rattle.ir_text.specs.Lists.{list_at}
 use Rattle.ir_instr.specs.Instructions.{effect_at, marked_call}
 use Rattle.ir_instr.specs.Words.{meaning_of}
 use Rattle.ir_grammar.specs.Headers.{entries_to}
-use Rattle.ir_grammar.specs.Items.{worded_item_at}
-use Rattle.ir_grammar.specs.Texts.{module_at}
+use Rattle.ir_grammar.specs.Items.{named_body_at, worded_item_at}
+use Rattle.ir_grammar.specs.NamedTypes.{definitions, bodies_read, types_in, bodies_in, known_in}
+use Rattle.ir_grammar.specs.PassedItems.{to_group}
+use Rattle.ir_grammar.specs.Texts.{wrong_among, first_wrong, unless_wrong, first_fault, module_at, module_in}
 
 no_types : Known
 no_types name = None
@@ -76,3 +79,14 @@ reads_next_label = refl
 reads_other_label : module_at [] (Ok (tt, [])) no_types (next_label (codes "1:")) ≡ Err (At 3 causes.Name)
 unfolding no_types at next_label is_digit name_of number_after among is_refused blamed integer_in word_constant constant_at constant_to constant_rule may_pass passed_at is_int_word stops_at token_by next_is repeated_to repeated_under int_type word_type effect_at marked_call meaning_of entries_to worded_item_at
 reads_other_label = refl
+
+-- a body with a fault in it, in what is passed over, before an item with one
+two_faults : List TokenV
+two_faults =
+    at 1 kind.Word (codes "attributes") ∷ at 1 kind.Punct (codes "#") ∷ at 1 kind.Integer (codes "0") ∷ at 1 kind.Punct (codes "=") ∷ at 1 kind.Punct (codes "{")
+    ∷ at 2 kind.LocalName (codes "%x") ∷ at 2 kind.Punct (codes "=") ∷ at 2 kind.Word (codes "type") ∷ at 2 kind.Punct (codes "{") ∷ at 2 kind.Word (codes "i0") ∷ at 2 kind.Punct (codes "}")
+    ∷ at 3 kind.Punct (codes "}") ∷ at 4 kind.Word (codes "nothing") ∷ []
+
+meets_two_faults : unless_wrong (first_fault two_faults) (module_in two_faults) ≡ Err (At 2 causes.Width)
+unfolding at two_faults first_wrong wrong_among definitions bodies_read bodies_in types_in known_in named_body_at type_at type_to type_rule list_at to_group group_from is_digit name_of number_after among is_refused blamed is_int_word token_by next_is repeated_to repeated_under int_type word_type worded_item_at
+meets_two_faults = refl

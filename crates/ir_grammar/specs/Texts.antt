@@ -1,5 +1,6 @@
 -- A module's text: its module, or its first fault.
-use Rattle.std.specs.Prelude.{ℕ, ◌+◌, ◌-◌, ◌==◌, ◌&&◌, Bool, true, false, if◌then◌else◌, fold, length, take, count_by, List, [], ◌∷◌, Option, Some, None, Result, Ok, Err, codes}
+use Rattle.std.specs.Prelude.{ℕ, ◌+◌, ◌-◌, ◌==◌, ◌&&◌, Bool, true, false, if◌then◌else◌, fold, length, take, count_by, List, [], ◌∷◌, ◌++◌, Option, Some, None, Result, Ok, Err, codes}
+use Rattle.std.specs.Option.{option_or}
 use Rattle.pv_base.specs.declared.name.Name.{Name}
 use Rattle.ir_lex.specs.declared.token.Token.{Token}
 use Rattle.ir_lex.specs.declared.token.Cause.TheVariants as causes
@@ -7,6 +8,7 @@ use Rattle.ir_lex.specs.declared.token.ReadError.{ReadError}
 use Rattle.ir_lex.specs.Lexing.{lexed}
 use Rattle.ir_tree.specs.declared.items.NamedType.{NamedType}
 use Rattle.ir_tree.specs.Trees.{TypeV}
+use Rattle.ir_text.specs.declared.fault.Fault.{Fault}
 use Rattle.ir_text.specs.declared.fault.Fault.TheVariants.{At, Ended}
 use Rattle.ir_text.specs.Tokens.{TokenV, token_of, tokens_of, same, is_mark}
 use Rattle.ir_text.specs.Reading.{Outcome, Reader, ◌>>=◌}
@@ -14,7 +16,7 @@ use Rattle.ir_text.specs.Passed.{is_any_word}
 use Rattle.ir_text.specs.Types.{Known}
 use Rattle.ir_grammar.specs.Modules.{ModuleV, nothing_so_far, with_item}
 use Rattle.ir_grammar.specs.Items.{items_at}
-use Rattle.ir_grammar.specs.NamedTypes.{types_in, bodies_in, known_in}
+use Rattle.ir_grammar.specs.NamedTypes.{definitions, named_only, bodies_read, types_in, bodies_in, known_in}
 
 -- ---- lines that are passed over
 
@@ -62,20 +64,47 @@ settled last fault (Ok x) = unless_fault fault x.0
 settled last fault (Err (At line cause)) = Err (record { line = line; cause = cause })
 settled last fault (Err Ended) = Err (end_of last fault)
 
--- the module of these named types, whose bodies are read so, and of all items, which are read first
+-- the module of these named types, whose bodies are read so, and of all items
 abbrev pub module_at : List (NamedType Name TypeV) → Outcome (Unit {0}) → Known → Reader ModuleV
 module_at types bodies known ts = do
   all ← items_at known ts
   sound ← bodies
   Ok (record (fold with_item nothing_so_far all.0).module_so_far { types = types }, all.1)
 
+-- ---- which fault is the first
+
+-- the fault with which a reading ends at a token, if it does
+abbrev pub token_fault : {A : Type 0} → Outcome A → Option Fault
+token_fault (Err (At line cause)) = Some (At line cause)
+token_fault _ = None
+
+-- What is wrong at a token of these, where these names are types and this is known of them: in an item, or else in the body
+-- of a definition, wherever it stands.
+unfoldable pub wrong_among : Known → Known → List TokenV → Option Fault
+wrong_among names known ts = option_or (token_fault (items_at known ts)) (token_fault (bodies_read names (definitions ts)))
+
+-- what is wrong in the fewest tokens, from these on
+unfoldable pub first_wrong : (List TokenV → Option Fault) → List TokenV → List TokenV → Option Fault
+first_wrong wrong front [] = wrong front
+first_wrong wrong front (t ∷ rest) = option_or (wrong front) (first_wrong wrong (front ++ t ∷ []) rest)
+
+abbrev pub unless_wrong : {A : Type 0} → Option Fault → Outcome A → Outcome A
+unless_wrong (Some fault) read = Err fault
+unless_wrong None read = read
+
 -- the tokens that are read
 unfoldable pub read_tokens : List ℕ → List TokenV
 read_tokens text = tokens_of text (without_records text (lexed text).tokens)
 
--- The module of a text, or the line and the cause of its first fault. The named types of the whole text are its types, and
--- are known at each place of it.
+-- the first fault at a token: the one that is met in the fewest tokens
+abbrev pub first_fault : List TokenV → Option Fault
+first_fault ts = first_wrong (wrong_among (named_only (definitions ts)) (known_in ts)) [] ts
+
+-- the module of these tokens: its items, and the bodies of all definitions
+abbrev pub module_in : List TokenV → Outcome ModuleV
+module_in ts = module_at (types_in ts) (bodies_in ts) (known_in ts) ts
+
+-- The module of a text, or the line and the cause of its first fault by place. The named types of the whole text are its
+-- types, and are known at each place of it.
 unfoldable pub read_of : List ℕ → Result ModuleV ReadError
-read_of text =
-    settled (last_line text) (lexed text).fault
-    (module_at (types_in (read_tokens text)) (bodies_in (read_tokens text)) (known_in (read_tokens text)) (read_tokens text))
+read_of text = settled (last_line text) (lexed text).fault (unless_wrong (first_fault (read_tokens text)) (module_in (read_tokens text)))

@@ -105,9 +105,8 @@ module _ (types : List (NamedType Name TypeV)) (bodies : Outcome (Unit {0})) whe
   pub module_unsound : (f : Fault) (read : Outcome (List Item)) (s : SoFar) (rest : List TokenV) → fault_in bodies ≡ Some f → gathered nothing_so_far read ≡ Ok (s, rest) → of_all read ≡ Err f
   module_unsound f read s rest some h = module_is read ∙ rw h (faulty_then f (Ok (record s.module_so_far { types = types }, rest)) some)
 
-  pub module_faulty : (e : ReadEnd) (read : Outcome (List Item)) → Fails e (gathered nothing_so_far read) → Fails e (of_all read)
-  module_faulty ends.Memory read h = tt
-  module_faulty (ends.Bad f) read h = module_is read ∙ rw h refl
+  pub module_ends : (f : Fault) (read : Outcome (List Item)) → read ≡ Err f → of_all read ≡ Err f
+  module_ends f read e = rw e refl
 
 -- what is said where all is well
 pub on_ok : {A E : Type 0} (P : Type 0) (r : Result A E) → P → OnOk r P

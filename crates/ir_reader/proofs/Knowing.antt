@@ -1,6 +1,6 @@
 -- The named types of a whole text, as they are found.
-use Rattle.std.proofs.Common.{◌≡◌, ℕ, ◌<◌, Bool, ◌+◌, true, false, cond, List, [], ◌∷◌, ◌++◌, Result, Ok, Err, map, take, length, get_or, Option, Some, None, slice_get, refl, sym, ap, subst, ◌∙◌, All, append_assoc, arith}
-use Rattle.std.specs.Prelude.{◌&&◌, fold, IfSome, IfOk, option_map, option_and_then}
+use Rattle.std.proofs.Common.{◌≡◌, ℕ, ◌<◌, Bool, ◌+◌, true, false, cond, List, [], ◌∷◌, ◌++◌, Ok, Err, map, take, length, get_or, Option, Some, None, slice_get, refl, sym, ap, ◌∙◌, All, append_assoc, arith}
+use Rattle.std.specs.Prelude.{◌&&◌, fold, IfSome, option_map, option_and_then}
 use Rattle.std.specs.Map.{lookup}
 use Rattle.std.specs.Option.{option_or}
 use Rattle.std.specs.List.{AllByRecursion}
@@ -11,7 +11,6 @@ use Rattle.std.proofs.lemmas.Option.{get_or_from_slice_get, slice_get_within, sl
 use mathlib.Core.Path.{fun_ext}
 use Rattle.pv_base.specs.declared.name.Name.{Name}
 use Rattle.pv_base.specs.declared.name.Name.TheVariants.{Numbered}
-use Rattle.pv_base.specs.declared.want.Memory.{Memory}
 use Rattle.ir_tree.specs.declared.layout.Layout.{Layout}
 use Rattle.ir_tree.specs.declared.items.NamedType.{NamedType}
 use Rattle.ir_tree.specs.Filling.{answer_at, named_types, NamedWithin, AreLayouts}

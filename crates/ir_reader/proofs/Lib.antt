@@ -13,4 +13,6 @@ pub mod Lines
 pub mod Gathering
 pub mod ItemTurns
 pub mod Wording
+pub mod Places
+pub mod Faults
 pub mod Settling

@@ -1,14 +1,19 @@
 -- Items by number, and what was read of a module.
-use Rattle.std.specs.Prelude.{ℕ, ◌+◌, ◌<◌, ◌≤◌, length, map, fold, if◌then◌else◌, List, [], Ok, ⊤, codes}
+use Rattle.std.specs.Prelude.{◌≡◌, ℕ, ◌+◌, ◌<◌, ◌≤◌, length, map, fold, if◌then◌else◌, List, [], Option, Some, None, Result, Ok, Err, ⊤, codes}
 use Rattle.ir_lex.specs.declared.token.Cause.TheVariants as causes
 use Rattle.ir_tree.specs.Table.{Table}
 use Rattle.ir_tree.specs.Naming.{name_at}
+use Rattle.ir_tree.specs.Modules.{Items}
 use Rattle.ir_tree.specs.Shown.{shown_named, shown_global, shown_function}
 use Rattle.ir_text.specs.Tokens.{TokenV, is_word}
 use Rattle.ir_text.specs.Reading.{Outcome, Reader, ◌>>=◌, wrong}
 use Rattle.ir_instr.specs.Defined.{AreNames}
 use Rattle.ir_grammar.specs.Modules as grammar
 use Rattle.ir_grammar.specs.PassedItems.{to_string, attributes_at}
+use Rattle.ir_text.specs.declared.fault.Fault.{Fault}
+use Rattle.ir_text.specs.declared.fault.ReadEnd.{ReadEnd}
+use Rattle.ir_text.specs.declared.fault.ReadEnd.TheVariants.{Memory, Bad}
+use Rattle.ir_reader.specs.declared.named.TextTypes.{TextTypes}
 use Rattle.ir_reader.specs.declared.so_far.SoFar.{SoFar}
 use Rattle.ir_reader.specs.declared.so_far.Item.{Item}
 use Rattle.ir_reader.specs.declared.so_far.Item.TheVariants as item
@@ -45,6 +50,12 @@ pub record SoFarWithin (table : Table) (s : SoFar) : Type 0 where
 -- what was read before, and what is still read
 abbrev pub gathered : grammar.SoFar → Outcome (List grammar.Item) → Outcome grammar.SoFar
 gathered s read = read >>= λ all. Ok (fold grammar.with_item s all.0, all.1)
+
+-- the module of what was read, unless a body has this fault
+abbrev pub IsWhole : Table → TextTypes → SoFar → Option Fault → Result Items ReadEnd → Type 0
+IsWhole table named s fault (Ok m) = (fault ≡ None) × (m ≡ record { names = table; types = named.types; globals = s.globals; functions = s.functions })
+IsWhole table named s fault (Err Memory) = ⊤
+IsWhole table named s fault (Err (Bad f)) = fault ≡ Some f
 
 -- an item that begins with one of the words that name nothing, behind that word
 abbrev pub passed_behind : TokenV → Reader (Unit {0})

@@ -5,3 +5,4 @@ pub mod Placing
 pub mod Knowing
 pub mod Gathered
 pub mod Answering
+pub mod Faulting

@@ -8,6 +8,7 @@ pub mod item;
 pub mod named;
 pub mod names;
 pub mod params;
+pub mod place;
 pub mod records;
 pub mod scope;
 pub mod skipped;

@@ -257,7 +257,7 @@ fn with_layouts(
 }
 
 /// The first fault in the body of a type that a text defines.
-fn body_fault(
+pub fn body_fault(
     alloc: Global,
     text: &[u8],
     tokens: &[Token],
@@ -283,12 +283,12 @@ fn body_fault(
     Ok(None)
 }
 
-/// What a text says of its named types, the types themselves, and the first fault in a body.
+/// What a text says of its named types, what the names alone say, and the types themselves.
 #[derive(Drop)]
 pub struct TextTypes {
     pub known: NamedTypes,
+    pub only: NamedTypes,
     pub types: List<NamedType>,
-    pub fault: Option<Fault>,
 }
 
 /// Finds what a text says of its named types, in time linear in the text. Only `Memory` ends it: where there is a fault in a
@@ -301,22 +301,17 @@ pub fn known_in(
 ) -> Result<TextTypes, Memory>
     requires { All (TokenIn text.now) tokens.now }
     ensures known { IfOk result (λ k. (later : Table) → Grows names.new later → known_of later k.known ≡ spec.known_in (tokens_of text.now tokens.now)) }
+    ensures only { IfOk result (λ k. (later : Table) → known_of later k.only ≡ spec.named_only (spec.definitions (tokens_of text.now tokens.now))) }
     ensures types { IfOk result (λ k. (later : Table) → Grows names.new later → named_types later k.types ≡ spec.types_in (tokens_of text.now tokens.now)) }
-    ensures fault { IfOk result (λ k. k.fault ≡ fault_in (spec.bodies_in (tokens_of text.now tokens.now))) }
     ensures bodies { IfOk result (λ k. AreTypes names.new k.known) }
     ensures within { IfOk result (λ k. All (NamedWithin names.new) k.types) }
     ensures grows { Grows names.old names.new }
 {
-    let named = names_only(alloc, text, tokens)?;
-    let all = defined_types(alloc, text, tokens, names, &named)?;
+    let only = names_only(alloc, text, tokens)?;
+    let all = defined_types(alloc, text, tokens, names, &only)?;
     let types = named_types(alloc, all.as_slice())?;
     names.is_table();
     let layouts = Layouts::new(alloc, names, types.as_slice())?;
     let known = with_layouts(alloc, names, &layouts, all.as_slice())?;
-    let fault = body_fault(alloc, text, tokens, &named)?;
-    Ok(TextTypes {
-        known,
-        types,
-        fault,
-    })
+    Ok(TextTypes { known, only, types })
 }

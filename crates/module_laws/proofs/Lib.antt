@@ -8,6 +8,9 @@ pub mod GlobalLaws
 pub mod FunctionLaws
 pub mod ItemLaws
 pub mod WholeLaws
+pub mod Staying
+pub mod FirstFaults
+pub mod FaultLaws
 pub mod StepLaws
 pub mod BlockLaws
 pub mod DefinitionLaws

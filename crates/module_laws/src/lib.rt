@@ -2,8 +2,8 @@
 //!
 //! Each part of an item is read exactly where it is spelled, and else its first fault is met. A text is read as a module
 //! exactly where it spells it, and it spells at most one. A text of none has one first fault, or its tokens end: no text
-//! avoids that fault that begins alike through its token and defines the same named types. Where all items are read, the
-//! fault may be the first in the body of a definition: no text avoids that one whose first body with a fault begins alike.
+//! avoids that fault that begins alike through its token and defines the same named types. Faults of items and of the bodies
+//! of definitions, wherever these stand, are in one order: by place.
 #![tactic(auto)]
 
 ghost use Rattle.std.specs.Prelude.{ℕ, Bool, List};
@@ -24,7 +24,7 @@ ghost use Rattle.module_laws.specs.Heads.{a_param, closed_params, a_head};
 ghost use Rattle.module_laws.specs.Blocks.{some_instructions, a_block, a_body};
 ghost use Rattle.module_laws.specs.Skipped.{up_to_string, some_attributes, some_metadata, a_comdat, some_attached};
 ghost use Rattle.module_laws.specs.ItemsSpelled.{a_named_type, a_global, a_declaration, a_definition, an_item, a_module};
-ghost use Rattle.module_laws.specs.TextLaws.{items_module_at, ReadIsSpelled, SpelledIsRead, OneModule, FaultIsFirst, OneFault, FaultsApart};
+ghost use Rattle.module_laws.specs.TextLaws.{items_module_at, ReadIsSpelled, SpelledIsRead, OneModule, ItemsStayWrong, BodiesStayWrong, FaultIsFirst, OneFault, FaultsApart};
 
 /// A parameter, before the `,` or `)` that ends it.
 pub fn parameters_are_read()
@@ -126,7 +126,17 @@ pub fn one_module()
     ensures { OneModule }
 {}
 
-/// A text of no module has a first fault, or its fault is where its tokens end, or it is in the body of a definition.
+/// A fault in an item stays, whatever stands behind.
+pub fn items_stay_wrong()
+    ensures { ItemsStayWrong }
+{}
+
+/// A fault in the body of a definition stays, whatever stands behind.
+pub fn bodies_stay_wrong()
+    ensures { BodiesStayWrong }
+{}
+
+/// A text of no module has a first fault at a token, or its fault is where its tokens end.
 pub fn faults_are_first()
     ensures { FaultIsFirst }
 {}
@@ -136,7 +146,7 @@ pub fn one_fault()
     ensures { OneFault }
 {}
 
-/// A text with a first fault has none where its tokens end, nor one in a body, and one in a body is not where its tokens end.
+/// A text with a first fault at a token has none where its tokens end.
 pub fn faults_are_apart()
     ensures { FaultsApart }
 {}

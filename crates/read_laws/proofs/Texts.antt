@@ -10,13 +10,14 @@ use Rattle.ir_lex.specs.Lexing.{lexed}
 use Rattle.ir_lex.specs.declared.token.ReadError.{ReadError}
 use Rattle.ir_tree.specs.declared.items.NamedType.{NamedType}
 use Rattle.ir_tree.specs.Trees.{TypeV}
+use Rattle.ir_text.specs.declared.fault.Fault.{Fault}
 use Rattle.ir_text.specs.declared.fault.Fault.TheVariants.{At, Ended}
 use Rattle.ir_text.specs.Tokens.{TokenV}
 use Rattle.ir_text.specs.Reading.{Outcome, ◌>>=◌}
 use Rattle.ir_text.specs.Types.{Known}
 use Rattle.ir_grammar.specs.Items.{items_at, named_body_at}
 use Rattle.ir_grammar.specs.NamedTypes.{definitions, named_only, unless_faulty, bodies_read, bodies_in, types_in, known_in}
-use Rattle.ir_grammar.specs.Texts.{last_line, unless_fault, settled, module_at, read_tokens, read_of}
+use Rattle.ir_grammar.specs.Texts.{last_line, unless_fault, settled, unless_wrong, first_fault, module_at, module_in, read_tokens, read_of}
 use Rattle.ir_rules.specs.Reading.{function_stands, instruction_stands, constants_stand, counts_stand, name_stands, type_names, global_names, defined_names}
 use Rattle.ir_rules.specs.Seen.{InstructionV, BlockV, FunctionV, ModuleV}
 use Rattle.ir_rules.proofs.SameLemmas.{and_both}
@@ -140,11 +141,16 @@ settled_is last fault (Ok x) v g e = subst Nearly (unfaulted fault x.0 v e) (g.h
 settled_is last fault (Err (At line cause)) v g e = absurd cc
 settled_is last fault (Err Ended) v g e = absurd cc
 
+-- what is read where nothing is wrong
+nothing_was : (wrong : Option Fault) (o : Outcome ModuleV) → Gives NearlyAt o → Gives NearlyAt (unless_wrong wrong o)
+nothing_was None o g = g
+nothing_was (Some f) o g = record { holds = λ x e. absurd cc }
+
 read_is : (text : List ℕ) (v : ModuleV) → read_of text ≡ Ok v → length (read_tokens text) < 2 ^ 32 → Nearly v
 unfolding read_of
 read_is text v e short =
     let ts = read_tokens text in
-    settled_is (last_line text) (lexed text).fault (module_at (types_in ts) (bodies_in ts) (known_in ts) ts) v (module_is ts short) e
+    settled_is (last_line text) (lexed text).fault (unless_wrong (first_fault ts) (module_in ts)) v (nothing_was (first_fault ts) (module_in ts) (module_is ts short)) e
 
 pub texts_stand : TextsStand
 texts_stand text v e short =

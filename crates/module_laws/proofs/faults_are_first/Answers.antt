@@ -1,4 +1,4 @@
-use Rattle.module_laws.proofs.WholeLaws.{fault_is_first}
+use Rattle.module_laws.proofs.FaultLaws.{fault_is_first}
 use Rattle.module_laws.proofs.faults_are_first.Goals as goal
 
 pub returns : goal.returns

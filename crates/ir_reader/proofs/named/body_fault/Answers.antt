@@ -1,4 +1,4 @@
-use Rattle.std.proofs.Common.{◌≡◌, ap, sym, ◌∙◌, Err}
+use Rattle.std.proofs.Common.{ap, sym, ◌∙◌, Err}
 use Rattle.ir_lex.specs.Lexing.{TokenIn}
 use Rattle.ir_text.specs.Named.{known_of}
 use Rattle.ir_text.specs.Tokens.{tokens_of}
