@@ -1,6 +1,6 @@
 //! Modules that are refused.
-use crate::calls::{check, joined, run};
-use crate::modules::{COUNT_ITEMS, TABLE_ITEMS};
+use crate::calls::{check, joined, run, turning};
+use crate::modules::{COUNT_ITEMS, TABLE, TABLE_ITEMS};
 use ir_reader::whole::read_module;
 use plain_commands::commands::FILE_LIMIT;
 use pv_base::bytes::Bytes;
@@ -261,13 +261,17 @@ fn the_plain_test_of_the_rules(rt: HostRuntime) -> Result<(), Fail> {
     Ok(())
 }
 
-/// Every cut of a module that does not end between items is refused.
+/// Each cut of a module is refused by one line: by the rules where it ends between items, since `main` is not there yet.
 #[test]
 fn cut_texts(rt: HostRuntime) -> Result<(), Fail> {
     let alloc = rt.alloc();
-    for end in 0..RETURN.len() - 1 {
-        let told = check(alloc, &RETURN.as_bytes()[..end])?;
-        assert!(rt; told.as_bytes().starts_with(b"3 |refused "));
+    let table = turning(alloc, TABLE_ITEMS, "3", TABLE)?;
+    for text in [RETURN.as_bytes(), table.as_slice()] {
+        for end in 0..text.len().saturating_sub(1) {
+            let told = check(alloc, &text[..end])?;
+            let lines = told.as_bytes().iter().filter(|b| **b == b'\n').count();
+            assert!(rt; told.as_bytes().starts_with(b"3 |refused ") && lines == 1);
+        }
     }
     Ok(())
 }

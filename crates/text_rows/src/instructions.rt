@@ -1,11 +1,12 @@
 //! Single instructions that are read, in a function of their own.
-use crate::modules::read;
+use crate::modules::{is_canonical, read};
 use std::alloc::Global;
 use std::process::Abort;
 use std::test::Fail;
 
 /// The first text that is read as another instruction than that behind it, or whose reading does not end at the next
-/// instruction: what is written of its function. Nothing where all are read so. The counter stands at 3.
+/// instruction, or whose canonical text is not read as itself: what is written of its function. Nothing where all are read so.
+/// The counter stands at 3.
 pub(crate) fn first_misread(
     rt: &impl Abort,
     alloc: Global,
@@ -17,7 +18,7 @@ pub(crate) fn first_misread(
         let wanted = format!(in alloc;
             "define void @f(i8 %0, i8 %1) {{\n2:\n  {canonical}\n  ret void\n}}\n"
         )?;
-        if told.as_str() != wanted.as_str() {
+        if told.as_str() != wanted.as_str() || !is_canonical(rt, alloc, wanted.as_str())? {
             return Ok(told);
         }
     }

@@ -1,5 +1,6 @@
 //! Texts that nest deeply, long names, and the cuts of a text.
 use crate::modules::{is_read, read};
+use crate::samples::TABLE;
 use pv_base::bytes::Bytes;
 use std::alloc::Global;
 use std::process::Abort;
@@ -76,6 +77,9 @@ const CUT: &[(&str, &str)] = &[
     ("define void @f() { ret void }\n;x\n", "0 29 30 31 32 33 "),
     ("%T = type {}\n$a = comdat any\n", "0 12 13 26 27 28 29 "),
     ("!0 = !{ }\ntarget triple = \"x\"\n", "0 9 10 29 30 "),
+    // Two globals, a declaration and a definition: behind a declaration the front of the word `define` is a word that is passed
+    // over.
+    (TABLE, "0 44 45 81 82 111 112 113 114 115 116 117 782 783 "),
 ];
 
 #[test]

@@ -28,6 +28,8 @@ mod refusals;
 #[cfg(test)]
 mod refused_words;
 #[cfg(test)]
+mod samples;
+#[cfg(test)]
 mod settled;
 #[cfg(test)]
 mod settled_items;

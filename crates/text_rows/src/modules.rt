@@ -25,7 +25,14 @@ pub(crate) fn is_read(rt: &impl Abort, alloc: Global, text: &[u8]) -> bool {
     read_module(alloc, text).is_ok()
 }
 
-/// The first text that is read otherwise than what stands behind it says: what is read of it. Nothing where none is.
+/// Whether a text is read as the module that it is the canonical text of.
+pub(crate) fn is_canonical(rt: &impl Abort, alloc: Global, text: &str) -> Result<bool, Fail> {
+    let told = read(rt, alloc, text.as_bytes())?;
+    Ok(told.as_str() == text)
+}
+
+/// The first text that is read otherwise than what stands behind it says, or whose canonical text is not read as itself: what is
+/// read of it. Nothing where none is.
 pub(crate) fn first_misread(
     rt: &impl Abort,
     alloc: Global,
@@ -35,6 +42,9 @@ pub(crate) fn first_misread(
         let told = read(rt, alloc, text.as_bytes())?;
         if told.as_str() != *wanted {
             return Ok(format!(in alloc; "{text}: {told}")?);
+        }
+        if is_read(rt, alloc, text.as_bytes()) && !is_canonical(rt, alloc, told.as_str())? {
+            return Ok(told);
         }
     }
     Ok(String::new(alloc))
@@ -53,6 +63,9 @@ pub(crate) fn first_misread_between(
         let told = read(rt, alloc, whole.as_bytes())?;
         if told.as_str() != *wanted {
             return Ok(format!(in alloc; "{whole}: {told}")?);
+        }
+        if is_read(rt, alloc, whole.as_bytes()) && !is_canonical(rt, alloc, told.as_str())? {
+            return Ok(told);
         }
     }
     Ok(String::new(alloc))
