@@ -1,0 +1,11 @@
+pub mod Deciding
+pub mod Least
+pub mod Limits
+pub mod Lexing
+pub mod Alike
+pub mod Common
+pub mod Records
+pub mod Bytes
+pub mod Rising
+pub mod Types
+pub mod Texts
