@@ -1,0 +1,9 @@
+pub mod Composing
+pub mod Naming
+pub mod Counting
+pub mod Leaves
+pub mod Heads
+pub mod Bodies
+pub mod Functions
+pub mod Standing
+pub mod Whole

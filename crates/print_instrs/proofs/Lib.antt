@@ -1,0 +1,15 @@
+pub mod Printing
+pub mod Tokens
+pub mod SingleTypes
+pub mod Parts
+pub mod FlagWords
+pub mod TableWords
+pub mod Below
+pub mod ListParts
+pub mod ValueForms
+pub mod MemoryForms
+pub mod Ends
+pub mod Calls
+pub mod Instructions
+pub mod Standing
+pub mod Filled

@@ -1,0 +1,13 @@
+pub mod Fresh
+pub mod SoundTokens
+pub mod KnownNames
+pub mod Distinct
+pub mod Bodies
+pub mod Defining
+pub mod Knowing
+pub mod Lines
+pub mod Walking
+pub mod Ordered
+pub mod Standing
+pub mod Whole
+pub mod Filled

@@ -1,0 +1,10 @@
+pub mod Composing
+pub mod Tokens
+pub mod Names
+pub mod Numbers
+pub mod Types
+pub mod TypeTrees
+pub mod Standing
+pub mod Constants
+pub mod Indices
+pub mod ConstantTrees
