@@ -1,5 +1,5 @@
 #!/usr/bin/env python3
-"""Machine steps a second, on loops of several kinds, as the turns double three times.
+"""Machine steps a second, on loops of several kinds, as the turns double four times.
 
     python3 bench/machine_speed.py [TURNS]
 
@@ -199,7 +199,7 @@ def least(command):
 
 
 def main():
-    turns = int(sys.argv[1]) if len(sys.argv) > 1 else 250_000
+    turns = int(sys.argv[1]) if len(sys.argv) > 1 else 125_000
     if not os.path.exists(PROGRAM):
         sys.exit("no program at " + PROGRAM + ": build it by `rt run` in crates/privateer")
     lli = shutil.which("lli-16")
@@ -209,7 +209,7 @@ def main():
         empty = os.path.join(folder, "empty")
         open(empty, "w").close()
         for name, text in LOOPS:
-            for factor in (1, 2, 4, 8):
+            for factor in (1, 2, 4, 8, 16):
                 with open(module, "w") as file:
                     count = turns * factor
                     file.write(text.format(turns=count, objects=count // 8, back=count // 8 - 1))

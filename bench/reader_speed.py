@@ -1,5 +1,5 @@
 #!/usr/bin/env python3
-"""Bytes read and checked a second, on texts of several kinds, as their length doubles three times.
+"""Bytes read and checked a second, on texts of several kinds, as their length doubles four times.
 
     python3 bench/reader_speed.py [BYTES]
 
@@ -67,6 +67,11 @@ def comments(length):
     return "; a comment of some length\n" * ((length - 200) // 27) + MAIN
 
 
+def two_faults(length):
+    """A fault in a body that is passed over, and then one in an item: the first is searched for by its place."""
+    return functions(length - 100) + "!0 = !{ %x = type { i0 } }\n@g = global i0 0\n"
+
+
 KINDS = [
     ("one function", one_function),
     ("blocks", blocks),
@@ -75,6 +80,7 @@ KINDS = [
     ("one initialiser", initialiser),
     ("brackets", brackets),
     ("comments", comments),
+    ("two faults", two_faults),
 ]
 
 
@@ -97,7 +103,7 @@ def main():
     with tempfile.TemporaryDirectory() as folder:
         module = os.path.join(folder, "module.ll")
         for name, make in KINDS:
-            for part in (8, 4, 2, 1):
+            for part in (16, 8, 4, 2, 1):
                 text = make(longest // part)
                 with open(module, "w") as file:
                     file.write(text)
