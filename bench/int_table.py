@@ -1,12 +1,12 @@
 #!/usr/bin/env python3
-"""Writes the tables of crates/int_num: operations on integers at their edges, and what they answer.
+"""Writes the tables of the tests of int_num: operations on integers at their edges, and what they answer.
 
 The answers are computed here on Python's unbounded integers, from the rules of the LLVM Language Reference and of this
 project (the causes of a division or a shift, and that a flag that is broken is a cause). Nothing is shared with the crate.
 
-    python3 bench/int_table.py operations > crates/int_num/src/table.rt
-    python3 bench/int_table.py others > crates/int_num/src/other_table.rt
-    cd crates/int_num && rt fmt
+    python3 bench/int_table.py operations > crates/part_rows/src/integer_table.rt
+    python3 bench/int_table.py others > crates/part_rows/src/other_integers.rt
+    cd crates/part_rows && rt fmt
 """
 import random
 import sys

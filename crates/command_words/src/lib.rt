@@ -4,6 +4,4 @@
 pub mod command_line;
 pub mod number;
 pub mod request;
-#[cfg(test)]
-mod tests;
 pub mod texts;

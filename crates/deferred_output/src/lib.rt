@@ -3,5 +3,3 @@
 
 pub mod order;
 pub mod output;
-#[cfg(test)]
-mod tests;

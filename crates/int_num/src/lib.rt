@@ -11,13 +11,7 @@ mod division;
 pub mod int;
 pub mod laws;
 pub mod ops;
-#[cfg(test)]
-mod other_table;
 mod promise;
 pub mod reduce;
 mod shifts;
 pub mod sign;
-#[cfg(test)]
-mod table;
-#[cfg(test)]
-mod tests;

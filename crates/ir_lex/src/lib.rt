@@ -8,6 +8,4 @@ pub mod laws;
 pub mod piece;
 pub mod scan;
 pub mod spelled;
-#[cfg(test)]
-mod tests;
 pub mod token;

@@ -8,6 +8,4 @@ pub mod layout;
 pub mod layouts;
 pub mod nodes;
 pub mod table;
-#[cfg(test)]
-mod tests;
 pub mod whole;

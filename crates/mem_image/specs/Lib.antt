@@ -3,4 +3,3 @@ pub mod Calls
 pub mod Words
 pub mod Entries
 pub mod Laws
-pub mod Guarded

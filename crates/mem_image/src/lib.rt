@@ -2,12 +2,8 @@
 #![tactic(auto)]
 
 pub mod fault;
-#[cfg(test)]
-mod guarded;
 pub mod image;
 pub mod laws;
 pub mod memory;
 pub mod object;
-#[cfg(test)]
-mod tests;
 pub mod word;

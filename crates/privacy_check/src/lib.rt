@@ -5,5 +5,3 @@ pub mod access;
 pub mod laws;
 mod object;
 pub mod shadow;
-#[cfg(test)]
-mod tests;

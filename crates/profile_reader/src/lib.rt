@@ -6,8 +6,6 @@ mod put;
 mod read;
 mod reader;
 mod repeats;
-#[cfg(test)]
-mod tests;
 
 pub use profile_lines::profile::{
     FlowLine, ObjectName, PhiLine, PhiWord, Profile, ProfileCause, ProfileLoop, ProfileName,

@@ -9,6 +9,4 @@ pub mod list;
 pub mod name;
 pub mod outside;
 pub mod place;
-#[cfg(test)]
-mod tests;
 pub mod want;

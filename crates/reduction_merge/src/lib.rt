@@ -4,5 +4,3 @@
 pub mod laws;
 pub mod partial;
 mod sums;
-#[cfg(test)]
-mod tests;

@@ -6,5 +6,3 @@ pub mod laws;
 pub mod names;
 pub mod printing;
 pub mod show;
-#[cfg(test)]
-mod tests;

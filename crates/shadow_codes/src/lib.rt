@@ -6,5 +6,3 @@
 #![tactic(auto)]
 
 pub mod codes;
-#[cfg(test)]
-mod tests;

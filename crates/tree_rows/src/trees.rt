@@ -2,11 +2,11 @@
 ghost use Rattle.std.specs.Prelude.{◌<◌, length, All, IsTrue};
 ghost use Rattle.ir_tree.specs.Filling.{NamedWithin};
 
-use crate::items::NamedType;
-use crate::layout::Layout;
-use crate::nodes::{NameId, TypeId};
-use crate::table::Names;
-use crate::whole::{Module, field_place, layout_at};
+use ir_tree::items::NamedType;
+use ir_tree::layout::Layout;
+use ir_tree::nodes::{NameId, TypeId};
+use ir_tree::table::Names;
+use ir_tree::whole::{Module, field_place, layout_at};
 use pv_base::list::List;
 use pv_base::name::Name;
 use pv_base::want::Memory;
@@ -27,6 +27,8 @@ enum Step {
     /// The name `%0`, whose type is the last one of all.
     Name,
 }
+
+use Step::*;
 
 fn is_type(names: &Names, of: TypeId) -> bool
     ensures { IsTrue result → of < length names.now.types }
@@ -91,14 +93,8 @@ fn make(
             Some(of) => array(names, count, of)?,
             None => return Err(Memory.into()),
         },
-        Step::Struct(count) => {
-            let fields = taken(alloc, stack, count)?;
-            structure(names, false, fields)?
-        }
-        Step::Packed(count) => {
-            let fields = taken(alloc, stack, count)?;
-            structure(names, true, fields)?
-        }
+        Step::Struct(count) => structure(names, false, taken(alloc, stack, count)?)?,
+        Step::Packed(count) => structure(names, true, taken(alloc, stack, count)?)?,
         Step::Name => {
             let name = names.number(Name::Numbered(0))?;
             named(names, name)?
@@ -145,52 +141,54 @@ fn laid(alloc: Allocator, steps: &[Step]) -> Result<Option<Layout>, Fail> {
     Ok(layout_at(&tree, of))
 }
 
+const MOST: u128 = 340282366920938463463374607431768211455;
+
+const LAYOUTS: &[(&[Step], u64, u64)] = &[
+    (&[Int(1)], 1, 1),
+    (&[Int(64)], 8, 8),
+    (&[Pointer], 8, 8),
+    (&[Int(8), Int(32), Struct(2)], 8, 4),
+    (&[Int(8), Int(32), Packed(2)], 5, 1),
+    (&[Int(8), Int(16), Struct(2), Array(3)], 12, 2),
+    (&[Int(64), Array(0)], 0, 8),
+    (&[Struct(0)], 0, 1),
+    (&[Struct(0), Array(MOST)], 0, 1),
+    (
+        &[Int(32), Array(2305843009213693951)],
+        9223372036854775804,
+        4,
+    ),
+    (
+        &[Int(8), Int(8), Int(64), Struct(2), Int(8), Struct(3)],
+        32,
+        8,
+    ),
+    (&[Pointer, Int(8), Struct(2)], 16, 8),
+];
+
 #[test]
 fn lays_types_out(rt: HostRuntime) -> Result<(), Fail> {
-    use Step::*;
-    let most = 340282366920938463463374607431768211455;
-    let rows: [(&[Step], u64, u64); 12] = [
-        (&[Int(1)], 1, 1),
-        (&[Int(64)], 8, 8),
-        (&[Pointer], 8, 8),
-        (&[Int(8), Int(32), Struct(2)], 8, 4),
-        (&[Int(8), Int(32), Packed(2)], 5, 1),
-        (&[Int(8), Int(16), Struct(2), Array(3)], 12, 2),
-        (&[Int(64), Array(0)], 0, 8),
-        (&[Struct(0)], 0, 1),
-        (&[Struct(0), Array(most)], 0, 1),
-        (
-            &[Int(32), Array(2305843009213693951)],
-            9223372036854775804,
-            4,
-        ),
-        (
-            &[Int(8), Int(8), Int(64), Struct(2), Int(8), Struct(3)],
-            32,
-            8,
-        ),
-        (&[Pointer, Int(8), Struct(2)], 16, 8),
-    ];
-    for (steps, size, align) in rows {
-        assert_eq!(rt; laid(rt.alloc(), steps)?, Some(Layout { size, align }));
+    for (steps, size, align) in LAYOUTS {
+        let (size, align) = (*size, *align);
+        assert!(rt; laid(rt.alloc(), steps)? == Some(Layout { size, align }));
     }
     Ok(())
 }
 
+const NO_LAYOUT: &[&[Step]] = &[
+    &[Int(24)],
+    &[Void],
+    &[Int(8), Int(24), Struct(2)],
+    &[Int(32), Array(2305843009213693952)],
+    &[Int(32), Array(4611686018427387904)],
+    &[Name, Array(2), Struct(1)],
+    &[Name, Array(0), Struct(1)],
+];
+
 #[test]
 fn lays_no_such_type_out(rt: HostRuntime) -> Result<(), Fail> {
-    use Step::*;
-    let rows: [&[Step]; 7] = [
-        &[Int(24)],
-        &[Void],
-        &[Int(8), Int(24), Struct(2)],
-        &[Int(32), Array(2305843009213693952)],
-        &[Int(32), Array(4611686018427387904)],
-        &[Name, Array(2), Struct(1)],
-        &[Name, Array(0), Struct(1)],
-    ];
-    for steps in rows {
-        assert_eq!(rt; laid(rt.alloc(), steps)?, None);
+    for steps in NO_LAYOUT {
+        assert!(rt; laid(rt.alloc(), steps)?.is_none());
     }
     Ok(())
 }
@@ -220,36 +218,31 @@ fn nested(alloc: Allocator, times: usize) -> Result<Option<Layout>, Fail> {
 
 #[test]
 fn lays_deep_types_out(rt: HostRuntime) -> Result<(), Fail> {
-    assert_eq!(rt;
-        doubled(rt.alloc(), 40)?,
-        Some(Layout {
-            size: 1099511627776,
-            align: 1
-        })
-    );
-    assert_eq!(rt; doubled(rt.alloc(), 63)?, None);
-    assert_eq!(rt;
-        nested(rt.alloc(), 1_000_000)?,
-        Some(Layout { size: 1, align: 1 })
-    );
+    let alloc = rt.alloc();
+    let whole = Layout {
+        size: 1099511627776,
+        align: 1,
+    };
+    assert!(rt; doubled(alloc, 40)? == Some(whole) && doubled(alloc, 63)?.is_none());
+    assert!(rt; nested(alloc, 1_000_000)? == Some(Layout { size: 1, align: 1 }));
     Ok(())
 }
 
+const FIELDS: &[(&[Step], u32, Option<u64>)] = &[
+    (&[Int(8), Int(32), Struct(2)], 1, Some(4)),
+    (&[Int(8), Int(32), Packed(2)], 1, Some(1)),
+    (&[Int(8), Int(32), Int(8), Struct(3)], 2, Some(8)),
+    (&[Int(8), Int(32), Struct(2)], 2, None),
+    (&[Int(8), Array(2)], 0, None),
+];
+
 #[test]
 fn finds_fields(rt: HostRuntime) -> Result<(), Fail> {
-    use Step::*;
-    let rows: [(&[Step], u32, Option<u64>); 5] = [
-        (&[Int(8), Int(32), Struct(2)], 1, Some(4)),
-        (&[Int(8), Int(32), Packed(2)], 1, Some(1)),
-        (&[Int(8), Int(32), Int(8), Struct(3)], 2, Some(8)),
-        (&[Int(8), Int(32), Struct(2)], 2, None),
-        (&[Int(8), Array(2)], 0, None),
-    ];
-    for (steps, index, want) in rows {
+    for (steps, index, want) in FIELDS {
         let mut names = Names::new(rt.alloc());
         let of = made(rt.alloc(), &mut names, steps)?;
         let tree = module(rt.alloc(), names, of)?;
-        assert_eq!(rt; field_place(&tree, of, index), want);
+        assert!(rt; field_place(&tree, of, *index) == *want);
     }
     Ok(())
 }

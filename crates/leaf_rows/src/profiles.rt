@@ -1,38 +1,81 @@
-//! Texts with what they say, or with their first fault.
-use crate::read::{ProfileEnd, read_profile};
+//! Texts of profiles with what they say, or with their first fault.
 use profile_lines::profile::{Profile, ProfileCause};
+use profile_reader::{ProfileEnd, read_profile};
 use std::alloc::Global;
-use std::test::Fail;
 
-fn crosses_threads<T: Send + Sync>() {}
+/// A line, counted from 1, and what is wrong with it.
+type Fault = (u32, ProfileCause);
 
-#[test]
-fn profiles_cross_threads() {
-    crosses_threads::<Profile>();
+/// The fault that stands for a refusal of memory, in a line that no text has.
+const NO_MEMORY: Fault = (0, ProfileCause::Head);
+
+/// What is read of a text: the sizes of its first loop, where it has one, or its first fault.
+fn read(alloc: Global, text: &[u8]) -> Result<Option<[usize; 7]>, Fault> {
+    if text.len() > 1_000_000 {
+        return Err((0, ProfileCause::TooLong));
+    }
+    match read_profile(alloc, text) {
+        Ok(profile) => Ok(sizes(&profile)),
+        Err(ProfileEnd::Bad(error)) => Err((error.line, error.cause)),
+        Err(ProfileEnd::Memory) => Err(NO_MEMORY),
+    }
+}
+
+/// The sizes of a profile's first loop: blocks, phis, uses, locals, flows, values, and bytes of the first value.
+fn sizes(profile: &Profile) -> Option<[usize; 7]> {
+    match profile.loops.as_slice() {
+        [found, ..] => {
+            let values = found.values.as_slice();
+            let bytes = match values {
+                [value, ..] => value.bytes.len(),
+                [] => 0,
+            };
+            Some([
+                found.blocks.len(),
+                found.phis.len(),
+                found.uses.len(),
+                found.locals.len(),
+                found.flows.len(),
+                values.len(),
+                bytes,
+            ])
+        }
+        [] => None,
+    }
 }
 
 /// What is wrong with a text, and where; none where it is a profile.
-fn fault(alloc: Global, text: &str) -> Result<Option<(u32, ProfileCause)>, Fail> {
-    let bytes = text.as_bytes();
-    if bytes.len() > 1_000_000 {
-        return Err("a long text".into());
-    }
-    match read_profile(alloc, bytes) {
-        Ok(_) => Ok(None),
-        Err(ProfileEnd::Bad(error)) => Ok(Some((error.line, error.cause))),
-        Err(ProfileEnd::Memory) => Err("memory".into()),
+fn fault(alloc: Global, text: &[u8]) -> Option<Fault> {
+    match read(alloc, text) {
+        Ok(_) => None,
+        Err(found) => Some(found),
     }
 }
 
-/// The fault of a loop of these lines after its first block, whose first line is line 4; all of them end by newlines.
-fn fault_in_loop(alloc: Global, lines: &str) -> Result<Option<(u32, ProfileCause)>, Fail> {
-    let text = format!(in alloc;
-        "privateer-profile 1\nloop @main %head\nblock %head\n{lines}end\n"
-    )?;
-    fault(alloc, text.as_str())
+/// The fault of a text between two others.
+fn fault_between(alloc: Global, before: &str, text: &str, behind: &str) -> Option<Fault> {
+    match format!(in alloc; "{before}{text}{behind}") {
+        Ok(whole) => fault(alloc, whole.as_bytes()),
+        Err(_) => Some(NO_MEMORY),
+    }
 }
 
-const TEXTS: [(&str, Option<(u32, ProfileCause)>); 34] = [
+/// The first text, between these two, whose fault is not what stands behind it.
+fn first_misread<'a>(
+    alloc: Global,
+    before: &str,
+    rows: &[(&'a str, Option<Fault>)],
+    behind: &str,
+) -> Option<&'a str> {
+    for (text, wanted) in rows {
+        if fault_between(alloc, before, *text, behind) != *wanted {
+            return Some(*text);
+        }
+    }
+    None
+}
+
+const TEXTS: &[(&str, Option<Fault>)] = &[
     ("", Some((1, ProfileCause::Head))),
     ("# a comment\n\n#\n", Some((1, ProfileCause::Head))),
     ("\n", Some((1, ProfileCause::Head))),
@@ -130,20 +173,20 @@ const TEXTS: [(&str, Option<(u32, ProfileCause)>); 34] = [
 ];
 
 #[test]
-fn whole_texts(rt: HostRuntime) -> Result<(), Fail> {
-    for (text, expected) in &TEXTS {
-        assert_eq!(rt; fault(rt.alloc(), *text)?, *expected, "in {text:?}");
-    }
-    Ok(())
+fn whole_texts_are_profiles_or_have_faults(rt: HostRuntime) {
+    assert_eq!(rt; first_misread(rt.alloc(), "", TEXTS, ""), None);
 }
 
-const WORD: Option<(u32, ProfileCause)> = Some((4, ProfileCause::Word));
+/// A loop up to its first block, so that the next line is line 4.
+const LOOP: &str = "privateer-profile 1\nloop @main %head\nblock %head\n";
 
-const NUMBER: Option<(u32, ProfileCause)> = Some((4, ProfileCause::Number));
+const WORD: Option<Fault> = Some((4, ProfileCause::Word));
 
-const REPEAT: Option<(u32, ProfileCause)> = Some((5, ProfileCause::Repeat));
+const NUMBER: Option<Fault> = Some((4, ProfileCause::Number));
 
-const LINES: [(&str, Option<(u32, ProfileCause)>); 56] = [
+const REPEAT: Option<Fault> = Some((5, ProfileCause::Repeat));
+
+const LINES: &[(&str, Option<Fault>)] = &[
     ("phi %i step 1\n", None),
     ("phi %i step -9223372036854775808\n", None),
     ("phi %i step -9223372036854775809\n", NUMBER),
@@ -215,63 +258,45 @@ const LINES: [(&str, Option<(u32, ProfileCause)>); 56] = [
 ];
 
 #[test]
-fn lines_of_a_loop(rt: HostRuntime) -> Result<(), Fail> {
-    for (lines, expected) in &LINES {
-        assert_eq!(rt;
-            fault_in_loop(rt.alloc(), *lines)?,
-            *expected,
-            "in {lines:?}"
-        );
-    }
-    Ok(())
+fn lines_of_a_loop_are_taken_or_have_faults(rt: HostRuntime) {
+    assert_eq!(rt; first_misread(rt.alloc(), LOOP, LINES, "end\n"), None);
 }
 
 /// The counter's profile.
 const COUNTER: &str =
     "privateer-profile 1\nloop @main %head\nblock %head\nblock %body\nblock %latch\nphi %i step 1\nuse @main:4/0 @n\nuse @main:6/0 @n\nend\n";
 
-#[test]
-fn fronts_of_the_counter(rt: HostRuntime) -> Result<(), Fail> {
-    let text = COUNTER.as_bytes();
+/// The first front of a text whose fault is not in its last line, or, where it ends here, that is no profile: its length.
+fn first_misread_front(alloc: Global, text: &[u8]) -> Option<usize> {
     let mut lines = 0u32;
     for end in 0..text.len() {
         let is_profile = end == 19 || end == 20 || end + 1 == text.len();
-        let found = match read_profile(rt.alloc(), &text[..end]) {
-            Ok(_) => 0,
-            Err(ProfileEnd::Bad(error)) => error.line,
-            Err(ProfileEnd::Memory) => return Err("memory".into()),
-        };
-        assert_eq!(rt;
-            found,
-            if is_profile { 0 } else { lines.max(1) },
-            "at {end}"
-        );
+        let wanted = if is_profile { 0 } else { lines.max(1) };
+        if faulty_line(alloc, &text[..end]) != Some(wanted) {
+            return Some(end);
+        }
         if end == 0 || text[end - 1] == b'\n' {
             lines = lines.saturating_add(1);
         }
     }
-    Ok(())
+    None
 }
 
-/// The sizes of a profile's one loop: blocks, phis, uses, locals, flows, values, and bytes of the first value.
-fn sizes(profile: &Profile) -> Option<[usize; 7]> {
-    let found = profile.loops.get(0)?;
-    let bytes = match found.values.get(0) {
-        Some(value) => value.bytes.len(),
-        None => 0,
-    };
-    Some([
-        found.blocks.len(),
-        found.phis.len(),
-        found.uses.len(),
-        found.locals.len(),
-        found.flows.len(),
-        found.values.len(),
-        bytes,
-    ])
+/// The line of a text's fault, 0 where it is a profile; none where memory is refused.
+fn faulty_line(alloc: Global, text: &[u8]) -> Option<u32> {
+    match fault(alloc, text) {
+        None => Some(0),
+        Some((0, _)) => None,
+        Some((line, _)) => Some(line),
+    }
 }
 
-const SAMPLES: [(&str, [usize; 7]); 9] = [
+#[test]
+fn a_front_of_a_profile_is_faulty_in_its_last_line(rt: HostRuntime) {
+    assert_eq!(rt; first_misread_front(rt.alloc(), COUNTER.as_bytes()), None);
+}
+
+const SAMPLES: &[(&str, [usize; 7])] = &[
     (COUNTER, [3, 1, 2, 0, 0, 0, 0]),
     (
         "privateer-profile 1\nloop @main %head\nblock %head\nblock %body\nblock %fill\nblock %say\nblock %latch\nphi %i step 1\nuse @main:8/0 @scratch\nuse @main:13/0 @scratch\nuse @main:14/0 @fmt\nend\n",
@@ -307,35 +332,19 @@ const SAMPLES: [(&str, [usize; 7]); 9] = [
     ),
 ];
 
-#[test]
-fn sample_profiles(rt: HostRuntime) -> Result<(), Fail> {
-    for (text, expected) in &SAMPLES {
-        let bytes = text.as_bytes();
-        if bytes.len() > 1_000_000 {
-            return Err("a long text".into());
-        }
-        match read_profile(rt.alloc(), bytes) {
-            Ok(profile) => assert_eq!(rt; sizes(&profile), Some(*expected), "in {text:?}"),
-            Err(_) => return Err("refused".into()),
+/// The first text that is read as a loop of other sizes than those behind it, or refused.
+fn first_of_other_sizes<'a>(alloc: Global, rows: &[(&'a str, [usize; 7])]) -> Option<&'a str> {
+    for (text, wanted) in rows {
+        if read(alloc, text.as_bytes()) != Ok(Some(*wanted)) {
+            return Some(*text);
         }
     }
-    Ok(())
+    None
 }
 
-/// A text with so many of a unit between a front and an end.
-fn stretched(
-    alloc: Global,
-    front: &str,
-    unit: &str,
-    count: usize,
-    end: &str,
-) -> Result<String, Fail> {
-    let mut text = String::from_str(alloc, front)?;
-    for _ in 0..count {
-        text.push_str(unit)?;
-    }
-    text.push_str(end)?;
-    Ok(text)
+#[test]
+fn sample_profiles_have_these_sizes(rt: HostRuntime) {
+    assert_eq!(rt; first_of_other_sizes(rt.alloc(), SAMPLES), None);
 }
 
 const BLOCK: &str = "privateer-profile 1\nloop @main %head\nblock %";
@@ -346,7 +355,8 @@ const PHI: &str = "privateer-profile 1\nloop @main %head\nblock %head\nphi %i sa
 
 const TWICE: &str = "privateer-profile 1\nloop @main %head\nblock %head\nphi %4 same\nphi %";
 
-const STRETCHED: [(&str, &str, usize, &str, Option<(u32, ProfileCause)>); 14] = [
+/// Texts of a unit so many times between a front and an end, and their faults.
+const STRETCHED: &[(&str, &str, usize, &str, Option<Fault>)] = &[
     (BLOCK, "a", 4089, "\nend", None),
     (BLOCK, "a", 4090, "\nend", Some((3, ProfileCause::TooLong))),
     (BLOCK, " ", 4090, "\nend", Some((3, ProfileCause::TooLong))),
@@ -376,15 +386,35 @@ const STRETCHED: [(&str, &str, usize, &str, Option<(u32, ProfileCause)>); 14] = 
     ),
 ];
 
-#[test]
-fn long_lines(rt: HostRuntime) -> Result<(), Fail> {
-    for (front, unit, count, end, expected) in &STRETCHED {
-        let text = stretched(rt.alloc(), *front, *unit, *count, *end)?;
-        assert_eq!(rt;
-            fault(rt.alloc(), text.as_str())?,
-            *expected,
-            "{front:?} {count}"
-        );
+/// The fault of a unit so many times between a front and an end.
+fn fault_stretched(
+    alloc: Global,
+    before: &str,
+    unit: &str,
+    count: usize,
+    behind: &str,
+) -> Option<Fault> {
+    match unit.repeat(alloc, count) {
+        Ok(text) => fault_between(alloc, before, text.as_str(), behind),
+        Err(_) => Some(NO_MEMORY),
     }
-    Ok(())
+}
+
+/// The first row whose fault is not what it says.
+fn first_misread_stretch(
+    alloc: Global,
+    rows: &[(&str, &str, usize, &str, Option<Fault>)],
+) -> Option<usize> {
+    for row in 0..rows.len() {
+        let (before, unit, count, behind, wanted) = rows[row];
+        if fault_stretched(alloc, before, unit, count, behind) != wanted {
+            return Some(row);
+        }
+    }
+    None
+}
+
+#[test]
+fn long_lines_are_refused_as_too_long_first(rt: HostRuntime) {
+    assert_eq!(rt; first_misread_stretch(rt.alloc(), STRETCHED), None);
 }

@@ -1,0 +1,187 @@
+//! Every shadow code at one stamp, loops over codes at lengths round a lane's, and calls on a shadow of one object of size 4.
+use privacy_check::access::{Access, BadCode};
+use privacy_check::shadow::Shadow;
+use pv_base::list::List;
+use pv_base::place::Place;
+use pv_base::want::Memory;
+use shadow_codes::codes::{first_clash, greatest, on_read, on_write, reset};
+use std::alloc::Global;
+use std::process::Abort;
+
+/// A code, and what it is after a read and after a write at stamp 4.
+const CODES: &[(u8, Option<u8>, Option<u8>)] = &[
+    (0, Some(2), Some(4)),
+    (1, None, Some(4)),
+    (2, Some(2), None),
+    (3, None, Some(4)),
+    (4, Some(4), Some(4)),
+];
+
+/// The first code that is another after a read or a write, or is no code at stamp 4.
+fn first_other(rows: &[(u8, Option<u8>, Option<u8>)]) -> Option<u8> {
+    for (code, read, written) in rows {
+        if *code > 4 || on_read(*code, 4) != *read || on_write(*code, 4) != *written {
+            return Some(*code);
+        }
+    }
+    None
+}
+
+/// What codes are after a reset.
+fn reset_of(mut codes: [u8; 5]) -> [u8; 5] {
+    reset(&mut codes);
+    codes
+}
+
+#[test]
+fn codes_change_by_reads_writes_and_resets(rt: HostRuntime) {
+    assert_eq!(rt; first_other(CODES), None);
+    assert_eq!(rt; reset_of([0, 1, 2, 3, 255]), [0, 1, 0, 1, 1]);
+}
+
+/// What is found of so many codes of which one may be set: the clash, and the greatest stamps of the reads and of the writes.
+type Found = (Option<usize>, u8, u8);
+
+/// What is found of codes that nothing read and that are only read, but for one that is read and written by stamp 200.
+fn found(rt: &impl Abort, alloc: Global, len: usize, hit: Option<usize>) -> Result<Found, Memory> {
+    let mut reads = vec![in alloc; 0u8; len]?;
+    let mut writes = vec![in alloc; 2u8; len]?;
+    if let Some(at) = hit {
+        set(reads.as_mut_slice(), at, 2);
+        set(writes.as_mut_slice(), at, 200);
+    }
+    assert!(rt; reads.len() == writes.len());
+    Ok((
+        first_clash(reads.as_slice(), writes.as_slice()),
+        greatest(reads.as_slice()),
+        greatest(writes.as_slice()),
+    ))
+}
+
+/// Sets a code where there is one.
+fn set(codes: &mut [u8], at: usize, code: u8) {
+    if at < codes.len() {
+        codes[at] = code;
+    }
+}
+
+/// Lengths, where a hit is, and the greatest stamp of the writes.
+const HITS: &[(usize, Option<usize>, u8)] = &[
+    (0, None, 0),
+    (1, None, 0),
+    (1, Some(0), 200),
+    (31, None, 0),
+    (31, Some(0), 200),
+    (31, Some(30), 200),
+    (32, None, 0),
+    (32, Some(0), 200),
+    (32, Some(31), 200),
+    (33, None, 0),
+    (33, Some(0), 200),
+    (33, Some(32), 200),
+    (1000, None, 0),
+    (1000, Some(0), 200),
+    (1000, Some(999), 200),
+];
+
+/// The first row of which something else is found, or for which memory is refused.
+fn first_missed(
+    rt: &impl Abort,
+    alloc: Global,
+    rows: &[(usize, Option<usize>, u8)],
+) -> Option<usize> {
+    for row in 0..rows.len() {
+        let (len, hit, most) = rows[row];
+        match found(rt, alloc, len, hit) {
+            Ok(found) => {
+                if found != (hit, 0, most) {
+                    return Some(row);
+                }
+            }
+            Err(_) => return Some(row),
+        }
+    }
+    None
+}
+
+#[test]
+fn one_hit_is_found_at_each_length(rt: HostRuntime) {
+    assert_eq!(rt; first_missed(&rt, rt.alloc(), HITS), None);
+}
+
+/// An access: its offset, length and stamp, and its answer.
+type Call = (Access, u64, u64, u8, Result<(), BadCode>);
+
+/// The first call whose answer is another.
+fn first_other_answer(rt: &impl Abort, shadow: &mut Shadow, calls: &[Call]) -> Option<usize> {
+    for number in 0..calls.len() {
+        let (access, offset, len, beta, answer) = calls[number];
+        let at = Place { name: 0, offset };
+        if touch(rt, shadow, access, at, len, beta) != answer {
+            return Some(number);
+        }
+    }
+    None
+}
+
+/// An access that may be asked for.
+fn touch(
+    rt: &impl Abort,
+    shadow: &mut Shadow,
+    access: Access,
+    at: Place,
+    len: u64,
+    beta: u8,
+) -> Result<(), BadCode> {
+    assert!(rt; beta >= 3 && shadow.may_access(at, len, beta));
+    match access {
+        Access::Read => shadow.read(at, len, beta),
+        Access::Write => shadow.write(at, len, beta),
+    }
+}
+
+/// The calls of each period.
+const PERIODS: &[&[Call]] = &[
+    &[
+        (Access::Write, 0, 2, 3, Ok(())),
+        (Access::Read, 1, 2, 3, Ok(())),
+        (Access::Write, 2, 1, 4, Err(BadCode { offset: 2, code: 2 })),
+        (Access::Read, 0, 1, 4, Err(BadCode { offset: 0, code: 3 })),
+    ],
+    &[
+        (Access::Read, 0, 1, 3, Err(BadCode { offset: 0, code: 1 })),
+        (Access::Read, 2, 1, 3, Ok(())),
+        (Access::Write, 0, 4, 3, Err(BadCode { offset: 2, code: 2 })),
+    ],
+];
+
+/// One object, of name 0.
+fn one_object(alloc: Global) -> Result<Shadow, Memory> {
+    let sizes = List::from_slice(alloc, &[(0u32, 4u64)])?;
+    Shadow::new(alloc, &sizes)
+}
+
+/// The first period, with the number of the first call in it, whose answer is another; the one behind the last where memory is
+/// refused.
+fn first_other_period(
+    rt: &impl Abort,
+    alloc: Global,
+    periods: &[&[Call]],
+) -> Option<(usize, usize)> {
+    let mut shadow = match one_object(alloc) {
+        Ok(shadow) => shadow,
+        Err(_) => return Some((periods.len(), 0)),
+    };
+    for period in 0..periods.len() {
+        if let Some(call) = first_other_answer(rt, &mut shadow, periods[period]) {
+            return Some((period, call));
+        }
+        shadow.end_period();
+    }
+    None
+}
+
+#[test]
+fn a_shadow_refuses_reads_of_old_writes_and_writes_of_what_was_read(rt: HostRuntime) {
+    assert_eq!(rt; first_other_period(&rt, rt.alloc(), PERIODS), None);
+}

@@ -1,0 +1,5 @@
+//! Layouts of types, as tests.
+#![tactic(auto)]
+
+#[cfg(test)]
+mod trees;
