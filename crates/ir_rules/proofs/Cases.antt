@@ -1,10 +1,8 @@
 -- The rules computed on small modules: one that meets them all, and one for each cause.
 use Prim.Native.String.{String}
-use Rattle.std.specs.Prelude.{◌≡◌, ℕ, Bool, true, false, List, [], ◌∷◌, ◌++◌, codes, Option, Some, None, refl}
+use Rattle.std.specs.Prelude.{◌≡◌, ℕ, Bool, true, false, List, [], ◌∷◌, codes, Option, Some, None, refl}
 use Rattle.pv_base.specs.declared.name.Name.{Name}
-use Rattle.pv_base.specs.declared.name.Name.TheVariants.{Named, Numbered}
-use Rattle.pv_base.specs.declared.place.Site.{Site}
-use Rattle.int_num.specs.Integer.{Integer}
+use Rattle.pv_base.specs.declared.name.Name.TheVariants.{Named}
 use Rattle.int_num.specs.declared.ops.BinOp.TheVariants.{Add}
 use Rattle.int_num.specs.declared.ops.Flags.{Flags}
 use Rattle.ir_tree.specs.declared.instruction.Operand.TheVariants as operand
@@ -12,20 +10,16 @@ use Rattle.ir_tree.specs.declared.instruction.Argument.{Argument}
 use Rattle.ir_tree.specs.declared.instruction.Arm.{Arm}
 use Rattle.ir_tree.specs.declared.instruction.Callee.TheVariants as callee
 use Rattle.ir_tree.specs.declared.instruction.Instruction.TheVariants as instruction
-use Rattle.ir_tree.specs.declared.items.NamedType.{NamedType}
-use Rattle.ir_tree.specs.declared.items.Global.{Global}
 use Rattle.ir_tree.specs.declared.items.Param.{Param}
-use Rattle.ir_tree.specs.declared.items.Block.{Block}
-use Rattle.ir_tree.specs.declared.items.Function.{Function}
-use Rattle.ir_tree.specs.Trees.{TypeV, IntV, PtrV, VoidV, ArrayV, StructV, NamedV, TypesV, NoneV, MoreV}
-use Rattle.ir_tree.specs.Trees.{ConstantV, IntegerC, NullC, ZeroC, TextC, ArrayC, StructC, NameC, AddressC, ElementsV, NoneC, MoreC}
+use Rattle.ir_tree.specs.Trees.{TypeV, IntV, PtrV, VoidV, ArrayV, StructV, NamedV, NoneV, MoreV}
+use Rattle.ir_tree.specs.Trees.{ConstantV, IntegerC, NullC, ZeroC, TextC, ArrayC, StructC, NameC, AddressC, NoneC, MoreC}
 use Rattle.ir_rules.specs.declared.fault.CheckSite.TheVariants as at
 use Rattle.ir_rules.specs.declared.fault.CheckCause.{CheckCause}
 use Rattle.ir_rules.specs.declared.fault.CheckCause.TheVariants as cause
 use Rattle.ir_rules.specs.declared.fault.CheckError.{CheckError}
-use Rattle.ir_rules.specs.Seen.{OperandV, InstructionV, BlockV, FunctionV, GlobalV, ModuleV}
+use Rattle.ir_rules.specs.Seen.{OperandV, InstructionV, BlockV, FunctionV, ModuleV}
 use Rattle.ir_rules.specs.Same.{same_type, same_types, same_constant, same_elements}
-use Rattle.ir_rules.specs.Forms.{is_terminator, is_phi, is_alloca, result_of, uses, targets, sources, integer_types}
+use Rattle.ir_rules.specs.Forms.{is_terminator, is_phi, result_of, uses, targets, sources, integer_types}
 use Rattle.ir_rules.specs.Constants.{names_known, all_known, written_types, type_count, are_all, indices_of, all_integers, holds_together, all_together}
 use Rattle.ir_rules.specs.Indexing.{step_into}
 use Rattle.ir_rules.specs.Calls.{params_fit, is_external}

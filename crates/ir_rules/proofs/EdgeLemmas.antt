@@ -1,5 +1,5 @@
 -- The edges between blocks, by numbers and written out.
-use Rattle.std.proofs.Common.{◌≡◌, ℕ, zero, suc, Bool, true, false, List, [], ◌∷◌, map, Option, Some, None, slice_get, refl, sym, ap, ◌∙◌}
+use Rattle.std.proofs.Common.{◌≡◌, ℕ, Bool, true, false, List, [], ◌∷◌, map, Some, None, slice_get, refl, sym, ap, ◌∙◌}
 use Rattle.std.specs.Prelude.{◌&&◌, ◌||◌, not, filter, if◌then◌else◌}
 use Rattle.std.specs.List.{list_any, list_all, filter_map, cons_option}
 use Rattle.pv_base.specs.declared.name.Name.{Name}
@@ -7,7 +7,7 @@ use Rattle.ir_tree.specs.declared.instruction.Case.{Case}
 use Rattle.ir_tree.specs.declared.instruction.Instruction.{Instruction}
 use Rattle.ir_tree.specs.declared.items.Block.{Block}
 use Rattle.ir_tree.specs.declared.items.Function.{Function}
-use Rattle.ir_tree.specs.Table.{Table, same_name, name_among}
+use Rattle.ir_tree.specs.Table.{Table, same_name}
 use Rattle.ir_tree.specs.Naming.{name_at}
 use Rattle.ir_tree.specs.Shown.{shown, shown_case, shown_block, shown_function}
 use Rattle.ir_rules.specs.Forms.{targets}

@@ -1,6 +1,6 @@
 -- Flags of constants, found one after another.
-use Rattle.std.proofs.Common.{◌≡◌, ℕ, zero, suc, ◌<◌, ◌≤◌, ◌+◌, Bool, true, false, List, [], ◌∷◌, ◌++◌, map, length, Option, Some, None, get_or, refl, sym, ap, ◌∙◌, arith, ◌⊎◌, inl, inr}
-use Rattle.std.specs.Prelude.{◌&&◌, ◌||◌}
+use Rattle.std.proofs.Common.{◌≡◌, ℕ, ◌<◌, ◌≤◌, ◌+◌, Bool, true, List, [], ◌∷◌, ◌++◌, map, length, refl, sym, ap, ◌∙◌, arith, inl, inr}
+use Rattle.std.specs.Prelude.{◌||◌}
 use Rattle.std.specs.List.{list_all, list_any}
 use Rattle.std.proofs.lemmas.Bool.{cases_lt}
 use Rattle.std.proofs.lemmas.List.{length_push}
@@ -9,8 +9,8 @@ use Rattle.std.proofs.Math.ListN.{get_or-eq_default, get_or-append}
 use Rattle.std.proofs.Math.Seq.{get_or-append_seam}
 use Rattle.ir_tree.specs.declared.nodes.Element.{Element}
 use Rattle.ir_tree.specs.Table.{Table}
-use Rattle.ir_tree.specs.Trees.{TypeV, ConstantV, NullC, ElementsV}
-use Rattle.ir_tree.specs.Naming.{type_at, constant_at, elements_by}
+use Rattle.ir_tree.specs.Trees.{TypeV, ConstantV, NullC}
+use Rattle.ir_tree.specs.Naming.{constant_at, elements_by}
 use Rattle.ir_rules.specs.Seen.{ModuleV}
 use Rattle.ir_rules.specs.Constants.{names_known, all_known}
 use Rattle.ir_rules.specs.Heads.{constant_below, flag_at, FlagsBelow, AreFlags}

@@ -1,5 +1,5 @@
 -- Types as instructions give them, in pairs.
-use Rattle.std.proofs.Common.{◌≡◌, ℕ, Bool, true, false, refl, eqb-true, eq-eqb}
+use Rattle.std.proofs.Common.{◌≡◌, ℕ, refl}
 use Rattle.ir_tree.specs.Trees.{TypeV, IntV, PtrV, VoidV, ArrayV, StructV, NamedV}
 use Rattle.ir_rules.specs.Same.{same_type}
 use Rattle.ir_rules.specs.Constants.{is_pointer, has_width}

@@ -1,5 +1,5 @@
 -- Types from outside of a module, and those of a function.
-use Rattle.std.proofs.Common.{◌≡◌, ℕ, zero, suc, Bool, true, false, List, [], ◌∷◌, map, slice_get, refl, ap}
+use Rattle.std.proofs.Common.{◌≡◌, ℕ, zero, suc, List, [], ◌∷◌, map, slice_get, refl, ap}
 use Rattle.std.specs.Prelude.{option_map}
 use Rattle.ir_tree.specs.declared.items.Param.{Param}
 use Rattle.ir_tree.specs.declared.items.Function.{Function}

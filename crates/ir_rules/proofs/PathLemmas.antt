@@ -7,7 +7,7 @@ use Rattle.pv_base.specs.declared.name.Name.{Name}
 use Rattle.ir_tree.specs.declared.items.NamedType.{NamedType}
 use Rattle.ir_tree.specs.Trees.{TypeV, IntV, PtrV, VoidV, ArrayV, StructV, NamedV}
 use Rattle.ir_tree.specs.Layouts.{struct_fields, fields_of, opened}
-use Rattle.ir_tree.specs.Naming.{type_at, types_at, types_by, listed}
+use Rattle.ir_tree.specs.Naming.{type_at, types_at}
 use Rattle.ir_rules.specs.declared.given.Walk.{Walk}
 use Rattle.ir_rules.specs.declared.given.Walk.TheVariants.{Through, Outside}
 use Rattle.ir_rules.specs.Indexing.{field_at}

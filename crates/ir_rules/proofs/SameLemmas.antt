@@ -1,14 +1,13 @@
 -- Types that are the same are equal.
-use Rattle.std.proofs.Common.{◌≡◌, ℕ, zero, suc, ◌<◌, ◌≤◌, ◌+◌, Bool, true, false, List, [], ◌∷◌, map, length, drop, get_or, refl, sym, ap, subst, ◌∙◌, arith, add-one, eqb-true, eq-eqb, ◌⊎◌, inl, inr}
-use Rattle.std.specs.Prelude.{◌&&◌, nat_eq}
-use Rattle.std.proofs.lemmas.Bool.{cases_Bool}
+use Rattle.std.proofs.Common.{◌≡◌, ℕ, suc, ◌<◌, ◌≤◌, ◌+◌, Bool, true, false, List, [], ◌∷◌, length, drop, get_or, refl, sym, ap, ◌∙◌, add-one, eqb-true, eq-eqb}
+use Rattle.std.specs.Prelude.{◌&&◌}
 use Rattle.std.proofs.Math.Seq.{drop-cons}
 use Rattle.std.proofs.lemmas.List.{drop_all}
 use Rattle.pv_base.specs.declared.name.Name.{Name}
 use Rattle.pv_base.specs.declared.name.Name.TheVariants.{Named, Numbered}
 use Rattle.ir_tree.specs.Table.{same_name}
 use Rattle.ir_tree.specs.Trees.{TypeV, IntV, PtrV, VoidV, ArrayV, StructV, NamedV, TypesV, NoneV, MoreV}
-use Rattle.ir_tree.specs.Naming.{types_by, listed}
+use Rattle.ir_tree.specs.Naming.{types_by}
 use Rattle.ir_tree.proofs.Bodies.{same_self}
 use lib.Pointwise.{bytes_decides}
 use Rattle.ir_rules.specs.Same.{same_bool, same_type, same_types}

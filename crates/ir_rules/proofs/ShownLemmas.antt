@@ -1,12 +1,10 @@
 -- The parts of an instruction and of a function, by numbers and written out.
-use Rattle.std.proofs.Common.{◌≡◌, ℕ, Bool, true, false, List, [], ◌∷◌, ◌++◌, map, Option, Some, None, refl, sym, ap, ◌∙◌}
+use Rattle.std.proofs.Common.{◌≡◌, ℕ, Bool, true, false, List, [], ◌∷◌, ◌++◌, map, Option, Some, None, refl, sym, ap}
 use Rattle.std.specs.Prelude.{option_map, option_and_then, find, if◌then◌else◌}
 use Rattle.std.specs.List.{filter_map, cons_option, flat_map}
 use Rattle.pv_base.specs.declared.name.Name.{Name}
 use Rattle.ir_tree.specs.declared.instruction.Operand.TheVariants as operand
 use Rattle.ir_tree.specs.declared.instruction.Argument.{Argument}
-use Rattle.ir_tree.specs.declared.instruction.Arm.{Arm}
-use Rattle.ir_tree.specs.declared.instruction.Case.{Case}
 use Rattle.ir_tree.specs.declared.instruction.Callee.{Callee}
 use Rattle.ir_tree.specs.declared.instruction.Callee.TheVariants as callee
 use Rattle.ir_tree.specs.declared.instruction.Instruction.{Instruction}
@@ -15,13 +13,12 @@ use Rattle.ir_tree.specs.declared.items.Param.{Param}
 use Rattle.ir_tree.specs.declared.items.Block.{Block}
 use Rattle.ir_tree.specs.declared.items.Function.{Function}
 use Rattle.ir_tree.specs.Table.{Table, same_name}
-use Rattle.ir_tree.specs.Trees.{TypeV, ConstantV}
-use Rattle.ir_tree.specs.Naming.{name_at, type_at, constant_at}
+use Rattle.ir_tree.specs.Trees.{TypeV}
+use Rattle.ir_tree.specs.Naming.{name_at, type_at}
 use Rattle.ir_tree.specs.Shown.{shown, shown_operand, shown_argument, shown_arm, shown_case, shown_callee, shown_param, shown_block, shown_function}
-use Rattle.ir_rules.specs.declared.given.Given.TheVariants.{Pointer, Bit, Written}
+use Rattle.ir_rules.specs.declared.given.Given.TheVariants.{Pointer, Written}
 use Rattle.ir_rules.specs.declared.given.Defined.{Defined}
-use Rattle.ir_rules.specs.declared.given.Use.{Use}
-use Rattle.ir_rules.specs.Forms.{is_terminator, is_phi, call_register, result_of, used, argument_use, argument_uses, callee_uses, uses, targets, sources, argument_types, integer_types}
+use Rattle.ir_rules.specs.Forms.{is_terminator, call_register, result_of, used, argument_use, argument_uses, callee_uses, uses, targets, sources, argument_types, integer_types}
 use Rattle.ir_rules.specs.Defining.{argument_of, defined_in, defined, register_type, given_type}
 use Rattle.ir_rules.specs.Heads.{shown_use, shown_defined, found_type}
 

@@ -1,10 +1,10 @@
 -- What stands in a constant, element by element.
-use Rattle.std.proofs.Common.{◌≡◌, ℕ, Bool, true, false, List, [], ◌∷◌, map, refl, ap, ◌∙◌}
+use Rattle.std.proofs.Common.{◌≡◌, ℕ, true, List, [], ◌∷◌, map, refl, ap, ◌∙◌}
 use Rattle.std.specs.Prelude.{◌&&◌}
 use Rattle.std.specs.List.{list_all}
 use Rattle.ir_tree.specs.declared.nodes.Element.{Element}
 use Rattle.ir_tree.specs.Table.{Table}
-use Rattle.ir_tree.specs.Trees.{TypeV, ConstantV, NullC, ElementsV}
+use Rattle.ir_tree.specs.Trees.{TypeV, ConstantV, NullC}
 use Rattle.ir_tree.specs.Naming.{type_at, types_at, elements_by}
 use Rattle.ir_rules.specs.Seen.{ModuleV}
 use Rattle.ir_rules.specs.Constants.{is_integer, written_types, all_integers, has_form, constant_index, indices_of, holds_together, all_together}

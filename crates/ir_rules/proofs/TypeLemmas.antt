@@ -1,16 +1,14 @@
 -- The types of numbers, by their nodes.
-use Rattle.std.proofs.Common.{◌≡◌, ℕ, zero, suc, ◌<◌, ◌≤◌, ◌+◌, Bool, true, false, List, [], ◌∷◌, ◌++◌, map, length, take, Option, Some, None, slice_get, get_or, refl, sym, ap, ◌∙◌, arith}
-use Rattle.std.specs.Prelude.{option_map}
+use Rattle.std.proofs.Common.{◌≡◌, ℕ, zero, suc, List, [], ◌∷◌, ◌++◌, Option, Some, None, slice_get, get_or, refl, sym, ap, ◌∙◌}
 use Rattle.std.specs.Borrow.{Bor}
 use Rattle.std.specs.Option.{option_copied}
-use Rattle.std.proofs.lemmas.Option.{slice_get_past, get_or_from_slice_get}
+use Rattle.std.proofs.lemmas.Option.{get_or_from_slice_get}
 use Rattle.pv_base.specs.declared.name.Name.{Name}
-use Rattle.pv_base.specs.declared.name.Name.TheVariants.{Named, Numbered}
+use Rattle.pv_base.specs.declared.name.Name.TheVariants.{Numbered}
 use Rattle.ir_tree.specs.declared.nodes.TypeNode.{TypeNode}
-use Rattle.ir_tree.specs.declared.nodes.TypeNode.TheVariants as node
 use Rattle.ir_tree.specs.Table.{Table, IsTable}
-use Rattle.ir_tree.specs.Trees.{TypeV, IntV, PtrV, VoidV, ArrayV, StructV, NamedV, TypesV, NoneV, MoreV}
-use Rattle.ir_tree.specs.Naming.{meanings, name_at, type_at, types_by, type_of_node, listed}
+use Rattle.ir_tree.specs.Trees.{TypeV, PtrV}
+use Rattle.ir_tree.specs.Naming.{meanings, name_at, type_at, type_of_node}
 use Rattle.ir_rules.specs.Heads.{name_or}
 use Rattle.ir_tree.proofs.Filled.{type_is}
 

@@ -1,5 +1,5 @@
 -- Callees, and the functions outside a module that may be called, by name and type.
-use Rattle.std.specs.Prelude.{ℕ, Bool, true, false, not, ◌&&◌, ◌||◌, ◌==◌, List, [], ◌∷◌, map, is_some, Option, Some, None, slice_get}
+use Rattle.std.specs.Prelude.{Bool, true, false, not, ◌&&◌, ◌||◌, ◌==◌, List, [], ◌∷◌, map, Option, Some, None, slice_get}
 use Rattle.std.specs.List.{list_any}
 use Rattle.pv_base.specs.External.{ExternalType, IntegerOf, Pointer, Void, external_result, external_parameters, takes_more}
 use Rattle.pv_base.specs.declared.external.External.{External}
@@ -7,11 +7,9 @@ use Rattle.pv_base.specs.declared.external.External.TheVariants.{Memcpy, Memmove
 use Rattle.pv_base.specs.declared.name.Name.{Name}
 use Rattle.pv_base.specs.declared.name.Name.TheVariants.{Named, Numbered}
 use Rattle.seq_calls.specs.Names.{known}
-use Rattle.int_num.specs.Integer.{Integer}
-use Rattle.ir_tree.specs.declared.instruction.Operand.{Operand}
 use Rattle.ir_tree.specs.declared.instruction.Operand.TheVariants as operand
 use Rattle.ir_tree.specs.Trees.{TypeV, IntV, PtrV, VoidV}
-use Rattle.ir_tree.specs.Trees.{ConstantV, IntegerC, ZeroC}
+use Rattle.ir_tree.specs.Trees.{IntegerC, ZeroC}
 use Rattle.ir_rules.specs.Seen.{ArgumentV, OperandV, FunctionV}
 use Rattle.ir_rules.specs.Same.{same_bool, same_type}
 

@@ -1,9 +1,9 @@
 -- Numbers for types and constants that are the same: two have one class exactly where they are the same.
-use Rattle.std.specs.Prelude.{◌≡◌, ◌≤◌, ℕ, Bool, nat_eq, nat_lt, List, length, if◌then◌else◌, slice_index_or}
+use Rattle.std.specs.Prelude.{◌≡◌, ◌≤◌, ℕ, nat_eq, nat_lt, List, length, if◌then◌else◌, slice_index_or}
 use Rattle.ir_tree.specs.Table.{Table}
-use Rattle.ir_tree.specs.Trees.{TypeV, PtrV, ConstantV, NullC}
-use Rattle.ir_tree.specs.Naming.{type_at, constant_at}
-use Rattle.ir_rules.specs.Same.{same_type, same_constant}
+use Rattle.ir_tree.specs.Trees.{TypeV, PtrV}
+use Rattle.ir_tree.specs.Naming.{type_at}
+use Rattle.ir_rules.specs.Same.{same_type}
 
 -- the class of a number, 0 where it has none
 abbrev pub class_at : List ℕ → ℕ → ℕ

@@ -1,10 +1,6 @@
 -- Constants at their types, after the LLVM Language Reference, "Constants".
-use Rattle.std.specs.Prelude.{ℕ, suc, Bool, true, false, ◌&&◌, nat_eq, List, [], ◌∷◌, length, Option, Some, None, zero, if◌then◌else◌}
-use Rattle.std.specs.List.{list_all}
-use Rattle.pv_base.specs.declared.name.Name.{Name}
-use Rattle.int_num.specs.Integer.{Integer}
-use Rattle.ir_tree.specs.declared.items.NamedType.{NamedType}
-use Rattle.ir_tree.specs.Trees.{TypeV, IntV, PtrV, VoidV, ArrayV, StructV, NamedV, TypesV, NoneV, MoreV}
+use Rattle.std.specs.Prelude.{ℕ, suc, Bool, true, false, ◌&&◌, nat_eq, List, [], ◌∷◌, length, Option, Some, None, if◌then◌else◌}
+use Rattle.ir_tree.specs.Trees.{TypeV, IntV, PtrV, ArrayV, TypesV, NoneV, MoreV}
 use Rattle.ir_tree.specs.Trees.{ConstantV, IntegerC, NullC, ZeroC, TextC, ArrayC, StructC, NameC, AddressC, ElementsV, NoneC, MoreC}
 use Rattle.ir_tree.specs.Layouts.{fields_of}
 use Rattle.ir_rules.specs.Seen.{ModuleV}

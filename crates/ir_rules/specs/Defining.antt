@@ -1,5 +1,5 @@
 -- What a function and a module define.
-use Rattle.std.specs.Prelude.{List, [], ◌∷◌, ◌++◌, map, Bool, false, ◌||◌, Option, Some, None, option_map, option_and_then, find}
+use Rattle.std.specs.Prelude.{List, ◌∷◌, ◌++◌, Bool, ◌||◌, Option, Some, None, option_map, option_and_then, find}
 use Rattle.std.specs.List.{list_any, flat_map, filter_map}
 use Rattle.pv_base.specs.declared.name.Name.{Name}
 use Rattle.ir_tree.specs.declared.items.Param.{Param}
@@ -10,7 +10,7 @@ use Rattle.ir_tree.specs.Trees.{TypeV, IntV, PtrV}
 use Rattle.ir_rules.specs.declared.given.Given.{Given}
 use Rattle.ir_rules.specs.declared.given.Given.TheVariants.{Pointer, Bit, Written}
 use Rattle.ir_rules.specs.declared.given.Defined.{Defined}
-use Rattle.ir_rules.specs.Seen.{FunctionV, GlobalV, ModuleV}
+use Rattle.ir_rules.specs.Seen.{FunctionV, ModuleV}
 use Rattle.ir_rules.specs.Forms.{result_of}
 
 -- the type that is given

@@ -1,9 +1,6 @@
 -- The faults of a module: at each place the first cause of the order, and of all places the first.
-use Rattle.std.specs.Prelude.{ℕ, suc, ◌+◌, Bool, true, false, not, ◌||◌, List, [], ◌∷◌, ◌++◌, map, length, find, is_some, Option, Some, None, option_and_then, option_map, slice_get}
+use Rattle.std.specs.Prelude.{ℕ, suc, Bool, false, not, ◌||◌, List, [], ◌∷◌, ◌++◌, map, length, find, is_some, Option, Some, None, option_and_then, option_map, slice_get}
 use Rattle.std.specs.List.{range_with_len}
-use Rattle.pv_base.specs.declared.place.Site.{Site}
-use Rattle.ir_tree.specs.declared.items.Global.{Global}
-use Rattle.ir_tree.specs.declared.items.Function.{Function}
 use Rattle.ir_rules.specs.declared.fault.CheckSite.{CheckSite}
 use Rattle.ir_rules.specs.declared.fault.CheckSite.TheVariants as at
 use Rattle.ir_rules.specs.declared.fault.CheckCause.{CheckCause}

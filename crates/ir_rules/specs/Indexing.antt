@@ -2,7 +2,7 @@
 use Rattle.std.specs.Prelude.{ℕ, zero, suc, Bool, true, false, List, [], ◌∷◌, Option, Some, None, fold}
 use Rattle.pv_base.specs.declared.name.Name.{Name}
 use Rattle.ir_tree.specs.declared.items.NamedType.{NamedType}
-use Rattle.ir_tree.specs.Trees.{TypeV, IntV, PtrV, VoidV, ArrayV, StructV, NamedV, TypesV, NoneV, MoreV}
+use Rattle.ir_tree.specs.Trees.{TypeV, ArrayV, TypesV, NoneV, MoreV}
 use Rattle.ir_tree.specs.Layouts.{fields_of}
 use Rattle.ir_rules.specs.declared.given.Walk.{Walk}
 use Rattle.ir_rules.specs.declared.given.Walk.TheVariants.{Through, Differs, Outside}

@@ -1,10 +1,9 @@
 -- The numbers in the items of a module are of its table, and a constant is made of those before it.
-use Rattle.std.specs.Prelude.{ℕ, ◌+◌, Bool, true, false, ◌&&◌, nat_lt, List, [], ◌∷◌, length, Option, Some, None}
+use Rattle.std.specs.Prelude.{ℕ, ◌+◌, Bool, true, ◌&&◌, nat_lt, List, [], ◌∷◌, length, Option, Some, None}
 use Rattle.std.specs.List.{list_all}
 use Rattle.ir_tree.specs.declared.instruction.Operand.{Operand}
 use Rattle.ir_tree.specs.declared.instruction.Operand.TheVariants as operand
 use Rattle.ir_tree.specs.declared.instruction.Instruction.{Instruction}
-use Rattle.ir_tree.specs.declared.items.NamedType.{NamedType}
 use Rattle.ir_tree.specs.declared.items.Global.{Global}
 use Rattle.ir_tree.specs.declared.items.Param.{Param}
 use Rattle.ir_tree.specs.declared.items.Block.{Block}

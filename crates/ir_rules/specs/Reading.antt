@@ -1,25 +1,20 @@
 -- What every module keeps that is read from text, and that a tree can break: registers have the types of registers, widths are 1 to
 -- 64, nothing is defined twice, memory is named of types with a layout, and numbers and counts stay below their limits.
-use Rattle.std.specs.Prelude.{◌≡◌, ◌<◌, ◌≤◌, ◌^◌, ℕ, suc, Bool, true, false, not, ◌&&◌, ◌||◌, nat_lt, nat_le, nat_eq, List, [], ◌∷◌, ◌++◌, map, length, is_some, sum_by, Option, Some, None}
+use Rattle.std.specs.Prelude.{◌≡◌, ◌<◌, ◌≤◌, ◌^◌, ℕ, Bool, true, false, not, ◌&&◌, nat_lt, nat_le, nat_eq, List, [], ◌∷◌, ◌++◌, map, length, is_some, sum_by, Option, Some, None}
 use Rattle.std.specs.List.{list_any, list_all, flat_map, filter_map, range_with_len}
 use Rattle.pv_base.specs.declared.name.Name.{Name}
 use Rattle.pv_base.specs.declared.name.Name.TheVariants.{Named, Numbered}
-use Rattle.int_num.specs.Integer.{Integer}
 use Rattle.ir_tree.specs.declared.instruction.Operand.TheVariants as operand
 use Rattle.ir_tree.specs.declared.instruction.Instruction.TheVariants as instruction
 use Rattle.ir_tree.specs.declared.layout.Layout.{Layout}
 use Rattle.ir_tree.specs.declared.items.NamedType.{NamedType}
-use Rattle.ir_tree.specs.declared.items.Global.{Global}
-use Rattle.ir_tree.specs.declared.items.Block.{Block}
-use Rattle.ir_tree.specs.declared.items.Param.{Param}
-use Rattle.ir_tree.specs.declared.items.Function.{Function}
-use Rattle.ir_tree.specs.Table.{Table, same_name}
+use Rattle.ir_tree.specs.Table.{same_name}
 use Rattle.ir_tree.specs.Trees.{TypeV, IntV, PtrV, VoidV, ArrayV, StructV, NamedV, TypesV, NoneV, MoreV}
 use Rattle.ir_tree.specs.Trees.{ConstantV, ArrayC, StructC, AddressC, ElementsV, NoneC, MoreC}
 use Rattle.ir_tree.specs.Naming.{type_at, constant_at}
 use Rattle.ir_tree.specs.Layouts.{layout_of}
 use Rattle.ir_tree.specs.Modules.{Items}
-use Rattle.ir_rules.specs.Seen.{OperandV, InstructionV, BlockV, FunctionV, GlobalV, ModuleV, seen}
+use Rattle.ir_rules.specs.Seen.{OperandV, InstructionV, FunctionV, ModuleV, seen}
 use Rattle.ir_rules.specs.Forms.{uses, memory_types, register_types, called_types, case_values}
 use Rattle.ir_rules.specs.Defining.{defined}
 use Rattle.ir_rules.specs.Constants.{constant_bits, indices_of}

@@ -1,9 +1,7 @@
 -- Which types, constants and operands are the same: those that are written alike. A named type is the same as none but itself.
-use Rattle.std.specs.Prelude.{ℕ, Bool, true, false, ◌&&◌, nat_eq, List, [], ◌∷◌}
+use Rattle.std.specs.Prelude.{Bool, true, false, ◌&&◌, nat_eq}
 use Rattle.std.specs.Str.{bytes_eq}
-use Rattle.pv_base.specs.declared.name.Name.{Name}
 use Rattle.int_num.specs.Integer.{Integer}
-use Rattle.ir_tree.specs.declared.instruction.Operand.{Operand}
 use Rattle.ir_tree.specs.declared.instruction.Operand.TheVariants as operand
 use Rattle.ir_tree.specs.Table.{same_name}
 use Rattle.ir_tree.specs.Trees.{TypeV, IntV, PtrV, VoidV, ArrayV, StructV, NamedV, TypesV, NoneV, MoreV}

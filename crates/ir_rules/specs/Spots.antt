@@ -1,10 +1,8 @@
 -- Where the instructions of a function stand, and the edges between its blocks.
-use Rattle.std.specs.Prelude.{ℕ, ◌+◌, ◌-◌, Bool, true, false, not, ◌&&◌, ◌||◌, nat_eq, nat_le, List, [], ◌∷◌, ◌++◌, map, filter, length, Option, Some, None, sum_by}
+use Rattle.std.specs.Prelude.{ℕ, ◌-◌, Bool, true, false, not, ◌&&◌, ◌||◌, nat_eq, nat_le, List, [], ◌∷◌, ◌++◌, map, filter, length, sum_by}
 use Rattle.std.specs.List.{list_any, list_all, flat_map}
 use Rattle.pv_base.specs.declared.name.Name.{Name}
-use Rattle.ir_tree.specs.declared.instruction.Arm.{Arm}
 use Rattle.ir_tree.specs.declared.items.Block.{Block}
-use Rattle.ir_tree.specs.declared.items.Function.{Function}
 use Rattle.ir_tree.specs.Table.{same_name, name_among}
 use Rattle.ir_rules.specs.Seen.{InstructionV, BlockV, FunctionV, ArmV}
 use Rattle.ir_rules.specs.Same.{same_operand}

@@ -1,5 +1,4 @@
-use Rattle.std.proofs.Common.{◌≡◌, ◌<◌, ◌≤◌, length, arith, sym, ◌∙◌, ap, get_or}
-use Rattle.std.proofs.lemmas.List.{length-map}
+use Rattle.std.proofs.Common.{◌<◌, ◌≤◌, length, arith, sym, ◌∙◌}
 use Rattle.ir_tree.specs.Naming.{type_at}
 use Rattle.ir_tree.specs.declared.nodes.Element.{Element}
 use Rattle.ir_rules.specs.Heads.{element_types}

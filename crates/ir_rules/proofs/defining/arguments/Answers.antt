@@ -1,4 +1,4 @@
-use Rattle.std.proofs.Common.{[], length}
+use Rattle.std.proofs.Common.{[]}
 use Rattle.ir_rules.specs.Defining.{argument_of}
 use Rattle.ir_rules.proofs.DefiningLemmas.{pushed}
 use Rattle.ir_rules.proofs.defining.arguments.Goals as goal

@@ -1,4 +1,4 @@
-use Rattle.std.proofs.Common.{[], length, ap, ◌∙◌}
+use Rattle.std.proofs.Common.{ap, ◌∙◌}
 use Rattle.ir_rules.specs.Forms.{result_of}
 use Rattle.ir_rules.proofs.DefiningLemmas.{pushed}
 use Rattle.ir_rules.proofs.defining.with_results.Goals as goal

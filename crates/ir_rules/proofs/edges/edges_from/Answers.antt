@@ -1,4 +1,4 @@
-use Rattle.std.proofs.Common.{[], length, ap, ◌∙◌}
+use Rattle.std.proofs.Common.{[], ap, ◌∙◌}
 use Rattle.ir_tree.specs.Naming.{name_at}
 use Rattle.ir_rules.specs.Edges.{edge_from}
 use Rattle.ir_rules.proofs.DefiningLemmas.{pushed}

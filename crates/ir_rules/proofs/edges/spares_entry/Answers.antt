@@ -1,4 +1,4 @@
-use Rattle.std.proofs.Common.{◌≡◌, sym, ◌∙◌}
+use Rattle.std.proofs.Common.{sym, ◌∙◌}
 use Rattle.ir_rules.proofs.EdgeLemmas.{spares_is}
 use Rattle.ir_rules.proofs.edges.spares_entry.Goals as goal
 

@@ -1,4 +1,4 @@
-use Rattle.std.proofs.Common.{◌≡◌, length, arith, sym, ◌∙◌}
+use Rattle.std.proofs.Common.{arith, sym, ◌∙◌}
 use Rattle.ir_tree.specs.Naming.{type_at}
 use Rattle.ir_rules.proofs.CallLemmas.{fit_short, fit_stop, fit_more, fit_end, or_left, or_right}
 use Rattle.ir_rules.proofs.fitting.params_fit.Goals as goal

@@ -1,4 +1,4 @@
-use Rattle.std.proofs.Common.{◌≡◌, ◌++◌, map, take}
+use Rattle.std.proofs.Common.{◌≡◌, map, take}
 use Rattle.ir_rules.specs.declared.given.Given.TheVariants.{Written}
 use Rattle.ir_rules.specs.Forms.{used}
 use Rattle.ir_rules.proofs.forms.with_arms.Given as goal

@@ -1,4 +1,4 @@
-use Rattle.std.proofs.Common.{◌≡◌, sym, ◌∙◌}
+use Rattle.std.proofs.Common.{sym, ◌∙◌}
 use Rattle.ir_rules.specs.Seen.{seen}
 use Rattle.ir_rules.proofs.MeetingLemmas.{known_is}
 use Rattle.ir_rules.proofs.meeting.names_known.Goals as goal

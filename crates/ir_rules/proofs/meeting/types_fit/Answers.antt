@@ -1,4 +1,4 @@
-use Rattle.std.proofs.Common.{◌≡◌, sym, ◌∙◌}
+use Rattle.std.proofs.Common.{sym, ◌∙◌}
 use Rattle.ir_rules.specs.Seen.{seen}
 use Rattle.ir_rules.proofs.MeetingLemmas.{types_are}
 use Rattle.ir_rules.proofs.meeting.types_fit.Goals as goal

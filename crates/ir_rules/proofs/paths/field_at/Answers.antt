@@ -1,4 +1,4 @@
-use Rattle.std.proofs.Common.{◌≡◌, sym, arith}
+use Rattle.std.proofs.Common.{arith}
 use Rattle.ir_rules.proofs.PathLemmas.{field_inside, field_outside}
 use Rattle.ir_rules.proofs.paths.field_at.Goals as goal
 

@@ -1,4 +1,4 @@
-use Rattle.std.proofs.Common.{◌≡◌, length, arith, ap, ◌∙◌}
+use Rattle.std.proofs.Common.{length, arith, ap}
 use Rattle.std.proofs.lemmas.List.{length_push}
 use Rattle.ir_rules.specs.Seen.{seen}
 use Rattle.ir_rules.specs.Constants.{holds_together}

@@ -1,9 +1,5 @@
-use Rattle.std.proofs.Common.{◌≡◌, sym}
+use Rattle.std.proofs.Common.{sym}
 use Rattle.ir_rules.proofs.TypeLemmas.{type_read, type_none}
-use Rattle.ir_tree.specs.declared.nodes.TypeNode.TheVariants as node
-use Rattle.std.proofs.Common.{ap, ◌∙◌}
-use Rattle.ir_tree.specs.Trees.{StructV}
-use Rattle.ir_tree.specs.Naming.{types_at}
 use Rattle.ir_rules.proofs.types.head_of.Goals as goal
 
 pub returns-in-Some-Int : goal.returns-in-Some-Int

@@ -1,4 +1,4 @@
-use Rattle.std.proofs.Common.{◌≡◌, ℕ, length, arith, sym, ◌∙◌, false}
+use Rattle.std.proofs.Common.{ℕ, arith, sym, ◌∙◌, false}
 use Rattle.ir_tree.specs.declared.items.Param.{Param}
 use Rattle.ir_tree.specs.Naming.{type_at}
 use Rattle.ir_rules.specs.Outer.{shown_outer}
