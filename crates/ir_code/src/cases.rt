@@ -1,24 +1,30 @@
 //! The cases of a switch, found by value.
-ghost use Rattle.std.specs.Prelude.{◌≡◌, [], OnOk, OnErr};
+ghost use Rattle.std.specs.Prelude.{◌≡◌, ◌++◌, ◌∷◌, [], OnOk, OnErr};
 ghost use Rattle.ir_code.specs.Cases.{edge_of, with_case};
 
-use indexmap::IndexMap;
+use pv_base::list::List;
 use pv_base::want::Memory;
 use std::alloc::Global;
+use std::collections::BTreeMap;
 use std::marker::Model;
 
-/// The edge of each value of a switch, by the value's bits, in text order. Contracts see the pairs of bits and edge.
+/// The edge of each value of a switch, by the value's bits, in text order. Contracts see the pairs of bits and edge. A value is found
+/// by an ordered search, which no choice of values makes slow.
 #[derive(Drop)]
 pub struct Cases {
-    edges: IndexMap<u64, u32>,
+    pairs: List<(u64, u32)>,
+    edges: BTreeMap<u64, u32>,
 }
 
 impl Model for Cases {
     ghost use Rattle.std.specs.Prelude.{ℕ, List as Sequence};
+    ghost use Rattle.ir_code.specs.Cases.{AreFound};
 
     ghost Value = { Sequence (ℕ × ℕ) };
 
-    ghost view = { λ c. c.edges.entries };
+    ghost view = { λ c. c.pairs };
+
+    ghost invariant = { λ c. AreFound c.pairs c.edges };
 }
 
 impl Cases {
@@ -26,7 +32,8 @@ impl Cases {
         ensures { result ≡ [] }
     {
         Cases {
-            edges: IndexMap::new(alloc),
+            pairs: List::new(alloc),
+            edges: BTreeMap::new(alloc),
         }
     }
 
@@ -45,9 +52,13 @@ impl Cases {
         if self.edge(value).is_some() {
             return Ok(());
         }
+        self.pairs.push((value, edge))?;
         match self.edges.insert(value, edge) {
             Ok(_) => Ok(()),
-            Err(_) => Err(Memory),
+            Err(_) => {
+                self.pairs.pop();
+                Err(Memory)
+            }
         }
     }
 }
