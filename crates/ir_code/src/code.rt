@@ -56,10 +56,18 @@ pub struct FunctionCode {
 }
 
 /// A module: its functions in text order, and the number of `main`, where it is defined.
-#[derive(Drop)]
 pub struct Code {
     pub functions: List<FunctionCode>,
     pub main: Option<u32>,
+}
+
+impl Drop for Code {
+    fn drop(self) {
+        let Code {
+            functions: _,
+            main: _,
+        } = self;
+    }
 }
 
 impl Code {

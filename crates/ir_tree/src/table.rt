@@ -20,11 +20,20 @@ const NUMBERS: usize = 4294967296;
 
 /// The names, types and constants of a module. Each call that adds one answers its number, and `Memory` where memory or
 /// the 2^32 numbers are used up; the table is then unchanged.
-#[derive(Drop)]
 pub struct Names {
     names: IndexSet<Name>,
     types: List<TypeNode>,
     constants: List<ConstantNode>,
+}
+
+impl Drop for Names {
+    fn drop(self) {
+        let Names {
+            names: _,
+            types: _,
+            constants: _,
+        } = self;
+    }
 }
 
 impl Model for Names {

@@ -17,13 +17,24 @@ use std::alloc::Global as Allocator;
 use std::marker::Model;
 
 /// A module. Its lists are in text order, and the numbers in them are of its table.
-#[derive(Drop)]
 pub struct Module {
     names: Names,
     types: List<NamedType>,
     globals: List<Global>,
     functions: List<Function>,
     layouts: Layouts,
+}
+
+impl Drop for Module {
+    fn drop(self) {
+        let Module {
+            names: _,
+            types: _,
+            globals: _,
+            functions: _,
+            layouts: _,
+        } = self;
+    }
 }
 
 impl Model for Module {

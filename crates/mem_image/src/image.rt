@@ -24,12 +24,22 @@ const LIVE_LIMIT: u64 = 4_194_304;
 const NAME_LIMIT: u32 = 2_147_483_648;
 
 /// The live objects by name, the next name, and how many bytes are live.
-#[derive(Drop)]
 pub struct Image {
     alloc: Global,
     objects: BTreeMap<u32, Object>,
     next: u32,
     live: u64,
+}
+
+impl Drop for Image {
+    fn drop(self) {
+        let Image {
+            alloc: _,
+            objects: _,
+            next: _,
+            live: _,
+        } = self;
+    }
 }
 
 impl Model for Image {
@@ -59,9 +69,10 @@ impl Image {
     }
 
     /// The memory without objects in which that name is the next.
-    #[cfg(test)]
-    pub(crate) fn from_name(alloc: Global, next: u32) -> Image
+    pub fn from_name(alloc: Global, next: u32) -> Image
         requires { next ≤ name_limit }
+        ensures objects { result.objects ≡ [] }
+        ensures next { result.next ≡ next }
     {
         Image {
             alloc,
