@@ -1,0 +1,13 @@
+pub mod Shapes
+pub mod Calls
+pub mod Calm
+pub mod CalmOutside
+pub mod Steps
+pub mod Runs
+pub mod Forms
+pub mod Filled
+pub mod Walking
+pub mod Names
+pub mod Addresses
+pub mod Found
+pub mod Programs

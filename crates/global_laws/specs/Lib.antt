@@ -1,0 +1,4 @@
+pub mod Globals
+pub mod Filled
+pub mod Programs
+pub mod Laws

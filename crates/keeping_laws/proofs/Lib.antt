@@ -1,0 +1,14 @@
+pub mod Lists
+pub mod Pictures
+pub mod Trees
+pub mod Numbers
+pub mod Accesses
+pub mod Flow
+pub mod Externals
+pub mod Acting
+pub mod Meanings
+pub mod Running
+pub mod Constants
+pub mod Firsts
+pub mod Coding
+pub mod Programs
