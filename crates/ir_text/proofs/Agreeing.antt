@@ -1,14 +1,13 @@
 -- Readings that agree on few tokens.
-use Rattle.std.proofs.Common.{◌≡◌, ℕ, zero, suc, ◌+◌, ◌≤◌, length, arith, Bool, true, false, cond, List, [], ◌∷◌, Ok, Err, refl, sym, ap, subst, ◌∙◌}
+use Rattle.std.proofs.Common.{◌≡◌, ℕ, zero, suc, ◌+◌, ◌≤◌, length, arith, Bool, cond, List, [], ◌∷◌, Ok, Err, refl, ap, subst, ◌∙◌}
 use Rattle.std.proofs.lemmas.List.{length-append}
 use Rattle.ir_text.specs.Tokens.{TokenV, is_mark}
 use Rattle.ir_text.specs.Reading.{Outcome, Reader, ◌>>=◌, next_is}
 use Rattle.ir_text.specs.Spelled.{Spelling}
 use Rattle.ir_text.specs.Lawful.{Follow, anything, Lawful}
-use Rattle.ir_text.specs.Choice.{choose}
 use Rattle.ir_text.specs.Leaves.{mark, mark_at}
 use Rattle.ir_text.specs.Repeated.{repeated_to, repeated_under, repeated, stays}
-use Rattle.ir_text.specs.Lists.{after_comma, listed_at, mark_for, filled_at, list_at}
+use Rattle.ir_text.specs.Lists.{after_comma, listed_at, mark_for, list_at}
 use Rattle.ir_text.proofs.Choices.{token_laws}
 
 pub bind_agree : {A B : Type 0} (o p : Outcome A) (f g : A × List TokenV → Outcome B) → o ≡ p → ((x : A × List TokenV) → o ≡ Ok x → f x ≡ g x) → (o >>= f) ≡ (p >>= g)

@@ -1,8 +1,7 @@
 -- A type is read the same whatever table holds the bodies of the named types.
-use Rattle.std.proofs.Common.{◌≡◌, ℕ, zero, suc, ◌≤◌, length, arith, Bool, true, false, cond, List, [], ◌∷◌, Option, Some, None, Result, Ok, Err, refl, sym, ap, subst, ◌∙◌}
+use Rattle.std.proofs.Common.{◌≡◌, ℕ, zero, suc, length, arith, Bool, true, false, cond, List, [], ◌∷◌, Option, Some, None, Result, Ok, Err, refl, sym, ap, subst, ◌∙◌}
 use Rattle.std.specs.Prelude.{is_some, is_ok, option_map, option_and_then}
 use Rattle.pv_base.specs.declared.name.Name.{Name}
-use Rattle.ir_lex.specs.Spelling.{integer_of}
 use Rattle.ir_lex.specs.declared.token.TokenKind.{TokenKind}
 use Rattle.ir_lex.specs.declared.token.TokenKind.TheVariants as kind
 use Rattle.ir_lex.specs.declared.token.Cause.TheVariants as causes
@@ -14,7 +13,7 @@ use Rattle.ir_text.specs.declared.named.NamedBody.{NamedBody}
 use Rattle.ir_text.specs.Tokens.{TokenV}
 use Rattle.ir_text.specs.Reading.{Outcome, ◌>>=◌, Fails, Reads, wrong}
 use Rattle.ir_text.specs.Leaves.{spelled_name}
-use Rattle.ir_text.specs.Types.{Body, Known, simple_by, simple, type_rule, type_to, type_at}
+use Rattle.ir_text.specs.Types.{Body, Known, simple_by, type_rule, type_to, type_at}
 use Rattle.ir_text.specs.Named.{body_of, body_in, known_of}
 use Rattle.ir_text.specs.MemoryTypes.{named_layouts, has_layout, memory_type_at, AreLaid}
 use Rattle.ir_text.proofs.LaidOut.{layouts_by}

@@ -1,13 +1,13 @@
 -- A choice by the next token keeps the laws.
-use Rattle.std.proofs.Common.{◌≡◌, ℕ, ◌≤◌, length, Bool, true, false, cond, List, [], ◌∷◌, ◌++◌, Result, Ok, Err, refl, sym, ap, subst, ◌∙◌, ◌⊎◌, inl, inr}
+use Rattle.std.proofs.Common.{◌≡◌, ℕ, ◌≤◌, length, Bool, true, false, List, [], ◌∷◌, ◌++◌, Ok, Err, refl, sym, ap, subst, ◌∙◌, ◌⊎◌, inl, inr}
 use Rattle.std.proofs.lemmas.Bool.{cases_Bool}
 use Rattle.ir_lex.specs.declared.token.Cause.{Cause}
-use Rattle.ir_text.specs.declared.fault.Fault.TheVariants.{At, Ended}
+use Rattle.ir_text.specs.declared.fault.Fault.TheVariants.{At}
 use Rattle.ir_text.specs.Tokens.{TokenV}
-use Rattle.ir_text.specs.Reading.{Outcome, Reader, next_is}
+use Rattle.ir_text.specs.Reading.{Reader, next_is}
 use Rattle.ir_text.specs.Spelled.{Spelling, InTurn, nothing, one_token}
 use Rattle.ir_text.specs.Leaves.{tested}
-use Rattle.ir_text.specs.Lawful.{Follow, Behind, ReadsAll, Unfaulted, SameNext, Takes, WrongAt, Lawful}
+use Rattle.ir_text.specs.Lawful.{Follow, Behind, Unfaulted, SameNext, Takes, WrongAt, Lawful}
 use Rattle.ir_text.specs.Choice.{choose, Opens}
 use Rattle.ir_text.proofs.Laws.{nothing_laws}
 

@@ -1,14 +1,12 @@
 -- One token, and choices by the next token, keep the laws.
-use Rattle.std.proofs.Common.{◌≡◌, ℕ, suc, ◌+◌, ◌≤◌, length, arith, Bool, true, false, cond, List, [], ◌∷◌, ◌++◌, Result, Ok, Err, refl, sym, ap, subst, ◌∙◌, ◌⊎◌, inl, inr}
-use Rattle.std.proofs.lemmas.Bool.{cases_Bool}
+use Rattle.std.proofs.Common.{◌≡◌, ℕ, suc, ◌≤◌, length, arith, List, [], ◌∷◌, ◌++◌, Result, Ok, Err, refl, sym, ap, ◌∙◌, ◌⊎◌, inl, inr}
 use Rattle.ir_lex.specs.declared.token.Cause.{Cause}
 use Rattle.ir_text.specs.declared.fault.Fault.{Fault}
 use Rattle.ir_text.specs.declared.fault.Fault.TheVariants.{At, Ended}
 use Rattle.ir_text.specs.Tokens.{TokenV, blamed}
-use Rattle.ir_text.specs.Reading.{Outcome, Reader, ◌>>=◌, Meaning, meant, token_by, next_is}
-use Rattle.ir_text.specs.Spelled.{Spelling, InTurn, Led, OneToken, one_token, nothing, never}
-use Rattle.ir_text.specs.Lawful.{Follow, anything, ReadsAll, Unfaulted, SameNext, Takes, OnLine, WrongAt, Lawful, Refuses}
-use Rattle.ir_text.specs.Choice.{choose, Opens}
+use Rattle.ir_text.specs.Reading.{Outcome, Reader, ◌>>=◌, Meaning, meant, token_by}
+use Rattle.ir_text.specs.Spelled.{Spelling, InTurn, Led, one_token, nothing, never}
+use Rattle.ir_text.specs.Lawful.{Follow, anything, Takes, WrongAt, Lawful, Refuses}
 use Rattle.ir_text.proofs.Laws.{line_behind, in_turn_before, nothing_laws}
 
 abbrev failed : {A : Type 0} → Fault → Outcome A

@@ -1,5 +1,5 @@
 -- More depth than there are tokens changes nothing of a constant.
-use Rattle.std.proofs.Common.{◌≡◌, ℕ, zero, suc, ◌+◌, ◌≤◌, length, arith, Bool, true, false, cond, List, [], ◌∷◌, ◌++◌, Option, Some, None, Ok, Err, refl, sym, ap, subst, ◌∙◌}
+use Rattle.std.proofs.Common.{◌≡◌, ℕ, zero, suc, ◌+◌, ◌≤◌, length, arith, List, [], ◌∷◌, ◌++◌, Option, Some, None, Ok, Err, refl, ap, ◌∙◌}
 use Rattle.std.proofs.lemmas.List.{length-append}
 use Rattle.ir_tree.specs.Trees.{TypeV, ConstantV, AddressC}
 use Rattle.ir_text.specs.declared.fault.Fault.TheVariants.{Ended}
@@ -9,7 +9,7 @@ use Rattle.ir_text.specs.Tokens.{TokenV, is_mark}
 use Rattle.ir_text.specs.Reading.{Outcome, Reader, ◌>>=◌, token_by}
 use Rattle.ir_text.specs.Lawful.{anything, Lawful}
 use Rattle.ir_text.specs.Leaves.{mark_at}
-use Rattle.ir_text.specs.Lists.{after_comma, list_at}
+use Rattle.ir_text.specs.Lists.{after_comma}
 use Rattle.ir_text.specs.Indices.{integer_type, Entry, Counted, Field, Never, entry_of}
 use Rattle.ir_text.specs.Types.{Known, type_at}
 use Rattle.ir_text.specs.Constants.{width_of}

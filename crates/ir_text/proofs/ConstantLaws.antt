@@ -1,7 +1,6 @@
 -- The laws of constants.
 use Rattle.std.proofs.Common.{◌≡◌, ℕ, zero, suc, ◌≤◌, length, arith, Bool, true, false, cond, List, [], ◌∷◌, ◌++◌, Option, Some, None, Result, Ok, Err, refl, sym, ap, subst, ◌∙◌, append_assoc, ◌⊎◌, inl, inr}
 use Rattle.std.specs.Prelude.{not, codes}
-use Rattle.ir_tree.specs.Trees.{TypesV}
 use Rattle.std.proofs.lemmas.List.{append-nil}
 use lib.Pointwise.{bytes_decides}
 use Rattle.int_num.specs.Integer.{Integer}
@@ -14,11 +13,11 @@ use Rattle.ir_tree.specs.Trees.{TypeV, ConstantV, IntegerC, NullC, ZeroC, TextC,
 use Rattle.ir_text.specs.declared.nested_constants.Bracket.{Bracket}
 use Rattle.ir_text.specs.declared.nested_constants.Bracket.TheVariants as bracket
 use Rattle.ir_text.specs.Tokens.{TokenV, same, is_mark, is_word, punct_is, word_is}
-use Rattle.ir_text.specs.Reading.{Outcome, Reader, ◌>>=◌, meant, next_is, token_by}
+use Rattle.ir_text.specs.Reading.{Reader, ◌>>=◌, meant, next_is, token_by}
 use Rattle.ir_text.specs.Spelled.{Spelling, InTurn, Led, one_token, nothing, by_test}
 use Rattle.ir_text.specs.Lawful.{Behind, anything, Lawful, Refuses}
 use Rattle.ir_text.specs.Choice.{Opens}
-use Rattle.ir_text.specs.Leaves.{tested, mark, word, string, mark_at, string_at, spelled_name}
+use Rattle.ir_text.specs.Leaves.{tested, mark, word, string, mark_at, string_at}
 use Rattle.ir_text.specs.Repeated.{Both, repeated_under, each_under}
 use Rattle.ir_text.specs.Passed.{skipped, skips}
 use Rattle.ir_text.specs.Lists.{after_comma, with_comma, list_at, closed_list, behind_item}
@@ -27,7 +26,7 @@ use Rattle.ir_text.specs.MemoryTypes.{memory_type_at, a_memory_type}
 use Rattle.ir_text.specs.Indices.{is_address_word, address_word, no_type, pointer_type, integer_type, word_of_32, field, Entry, Counted, Field, Never, entry_of, led_to}
 use Rattle.ir_text.specs.TypeSpelled.{a_mark, a_word, a_type}
 use Rattle.ir_text.specs.Constants.{width_of, integer_in, some_constant, word_constant, simple_by, simple_constant}
-use Rattle.ir_text.specs.NestedConstants.{Typed, elements_of, closing_mark, bracket_end, element_at, bracket_rule, packed_rule, text_rule, address_start, field_at, counted_at, index_by, index_at, next_into, indices_end, base_end, address_rule, constant_rule, constant_to}
+use Rattle.ir_text.specs.NestedConstants.{Typed, elements_of, closing_mark, bracket_end, element_at, bracket_rule, packed_rule, text_rule, address_start, counted_at, index_by, index_at, next_into, indices_end, base_end, address_rule, constant_rule, constant_to}
 use Rattle.ir_text.specs.ConstantSpelled.{an_address_start, an_index, a_constant, some_elements, more_elements, first_index, more_indices}
 use Rattle.ir_text.specs.Operands.{is_local, kind_is_local}
 use Rattle.ir_text.proofs.Laws.{nothing_laws, in_turn_before}

@@ -1,5 +1,5 @@
 -- What a step of reading constants leads to.
-use Rattle.std.proofs.Common.{◌≡◌, ℕ, ◌+◌, ◌≤◌, length, Bool, true, false, cond, List, [], ◌∷◌, ◌++◌, map, drop, Option, Some, None, Ok, Err, refl, sym, ap, subst, ◌∙◌, append_assoc}
+use Rattle.std.proofs.Common.{◌≡◌, ℕ, ◌+◌, ◌≤◌, length, true, false, List, [], ◌∷◌, ◌++◌, map, drop, Option, Some, Ok, Err, refl, sym, ap, ◌∙◌, append_assoc}
 use Rattle.std.specs.Prelude.{codes, option_map}
 use Rattle.std.proofs.lemmas.List.{map_push}
 use Rattle.ir_tree.specs.declared.nodes.Element.{Element}
@@ -15,15 +15,15 @@ use Rattle.ir_text.specs.declared.nested_constants.Bracket.{Bracket}
 use Rattle.ir_text.specs.declared.nested_constants.Bracket.TheVariants as bracket
 use Rattle.ir_text.specs.declared.nested_constants.OpenConstant.{OpenConstant}
 use Rattle.ir_text.specs.Tokens.{TokenV, is_mark, is_word}
-use Rattle.ir_text.specs.Reading.{Outcome, Reader, ◌>>=◌, gives, Fails, next_is, sees, meant, token_by}
+use Rattle.ir_text.specs.Reading.{Outcome, Reader, ◌>>=◌, gives, Fails, sees, meant, token_by}
 use Rattle.ir_text.specs.Leaves.{mark_at}
 use Rattle.ir_text.specs.Choice.{choose}
-use Rattle.ir_text.specs.Repeated.{repeated, repeated_under, stays}
+use Rattle.ir_text.specs.Repeated.{repeated_under, stays}
 use Rattle.ir_text.specs.Lists.{after_comma, listed_at, mark_for, list_at}
 use Rattle.ir_text.specs.Types.{Known, register_type, type_at}
-use Rattle.ir_text.specs.Indices.{no_type, integer_type, word_of_32, field, Entry, Counted, Field, Never, entry_of, led_to}
+use Rattle.ir_text.specs.Indices.{no_type, integer_type, word_of_32, field, Counted, Field, Never, entry_of, led_to}
 use Rattle.ir_text.specs.Constants.{width_of, simple_constant}
-use Rattle.ir_text.specs.NestedConstants.{Typed, elements_of, closing_mark, bracket_end, bracket_rule, packed_rule, text_rule, index_at, next_into, indices_end, base_end, address_rule, constant_rule, constant_at}
+use Rattle.ir_text.specs.NestedConstants.{Typed, elements_of, closing_mark, bracket_end, bracket_rule, text_rule, index_at, next_into, indices_end, base_end, address_rule, constant_rule, constant_at}
 use Rattle.ir_text.specs.OpenConstants.{element, elements_behind, brackets, elements_end, elements_from, shown_element, address_close, address_end, counted_end, field_end, index_end, fields_of, closing, resume}
 use Rattle.ir_text.proofs.Agreeing.{comma_less}
 use Rattle.ir_text.proofs.RepeatedLaws.{repeated_is}

@@ -1,13 +1,10 @@
 -- Marks that are taken where they stand.
-use Rattle.std.proofs.Common.{◌≡◌, ℕ, ◌+◌, ◌≤◌, length, arith, Bool, true, false, cond, List, [], ◌∷◌, drop, Ok, Err, refl, sym, ap, subst, ◌∙◌}
+use Rattle.std.proofs.Common.{◌≡◌, ℕ, ◌+◌, ◌≤◌, length, arith, Bool, true, false, List, [], ◌∷◌, drop, Ok, refl, sym, ap, subst, ◌∙◌}
 use Rattle.std.specs.Prelude.{not}
-use Rattle.ir_lex.specs.declared.token.TokenKind.TheVariants as kind
-use Rattle.ir_lex.specs.declared.token.Cause.TheVariants as causes
 use Rattle.ir_text.specs.declared.fault.ReadEnd.{ReadEnd}
-use Rattle.ir_text.specs.Tokens.{TokenV, is_mark}
-use Rattle.ir_text.specs.Reading.{Outcome, Reader, ◌>>=◌, next_is, sees, token_by, meant, Fails}
-use Rattle.ir_text.specs.Choice.{Opens}
-use Rattle.ir_text.specs.Leaves.{tested, mark, mark_at}
+use Rattle.ir_text.specs.Tokens.{TokenV}
+use Rattle.ir_text.specs.Reading.{Outcome, next_is, sees, token_by, Fails}
+use Rattle.ir_text.specs.Leaves.{mark_at}
 use Rattle.ir_text.specs.Passed.{group_from, after_word, after_string, some_string, passed_by, passed_at, may_pass, words_at, passed_unless}
 use Rattle.ir_text.proofs.Persisting.{shortens}
 use Rattle.ir_text.proofs.PassedLaws.{passed_laws, passed_opens, skips_on, skips_fails, skips_end}

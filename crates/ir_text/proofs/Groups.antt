@@ -1,13 +1,12 @@
 -- Groups in brackets keep the laws.
-use Rattle.std.proofs.Common.{◌≡◌, ℕ, suc, ◌-◌, ◌≤◌, length, arith, Bool, true, false, cond, leb, List, [], ◌∷◌, ◌++◌, Result, Ok, Err, refl, sym, ap, subst, ◌∙◌, inl, inr}
+use Rattle.std.proofs.Common.{◌≡◌, ℕ, suc, ◌-◌, ◌≤◌, length, arith, true, false, leb, List, [], ◌∷◌, ◌++◌, Ok, Err, refl, sym, ap, subst, ◌∙◌, inl, inr}
 use Rattle.std.proofs.lemmas.Bool.{cases_Bool}
 use Rattle.std.proofs.lemmas.List.{append-nil}
-use Rattle.std.specs.Bool.{MatchBool}
 use Rattle.ir_lex.specs.declared.token.Cause.{Cause}
 use Rattle.ir_text.specs.declared.fault.Fault.TheVariants.{At, Ended}
 use Rattle.ir_text.specs.Tokens.{TokenV}
-use Rattle.ir_text.specs.Reading.{Outcome, Reader}
-use Rattle.ir_text.specs.Lawful.{anything, SameNext, Takes, Lawful, ReadsAll}
+use Rattle.ir_text.specs.Reading.{Outcome}
+use Rattle.ir_text.specs.Lawful.{anything, Lawful}
 use Rattle.ir_text.specs.Passed.{is_opening, is_closing, group_from, closed_from, a_group}
 
 -- what a front of tokens is read as, whatever stands behind it

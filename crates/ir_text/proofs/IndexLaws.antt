@@ -1,5 +1,5 @@
 -- What indices may be, by the numbers of a table, and the tokens before them.
-use Rattle.std.proofs.Common.{◌≡◌, ℕ, zero, suc, ◌+◌, ◌<◌, ◌≤◌, length, arith, Bool, true, false, cond, List, [], ◌∷◌, drop, map, Option, Some, None, slice_get, Result, Ok, Err, refl, sym, ap, subst, ◌∙◌, All}
+use Rattle.std.proofs.Common.{◌≡◌, ℕ, zero, suc, ◌+◌, ◌<◌, ◌≤◌, length, arith, Bool, true, false, List, [], ◌∷◌, drop, Option, Some, None, slice_get, Result, Ok, Err, refl, sym, ap, ◌∙◌}
 use Rattle.std.specs.Prelude.{option_map, option_and_then, nat_eq, IfSome}
 use Rattle.std.specs.List.{AllByRecursion}
 use Rattle.std.proofs.lemmas.List.Elements.{recursion_from_All}
@@ -14,18 +14,16 @@ use Rattle.std.proofs.lemmas.Option.{slice_get_within}
 use Rattle.ir_tree.specs.Table.{Table, IsTable, TypeWithin as TableWithin}
 use Rattle.ir_tree.specs.Trees.{TypeV, NamedV, TypesV, ConstantV, NullC}
 use Rattle.ir_tree.specs.Layouts.{field_type}
-use Rattle.ir_tree.specs.Naming.{Grows, name_at, type_at, types_by, type_of_node, constant_at, constant_of_node, listed}
-use Rattle.ir_tree.proofs.Showing.{meaning_from, type_within_more}
+use Rattle.ir_tree.specs.Naming.{Grows, name_at, type_at, types_by, type_of_node, constant_at, constant_of_node}
+use Rattle.ir_tree.proofs.Showing.{meaning_from}
 use Rattle.ir_text.specs.declared.fault.ReadEnd.{ReadEnd}
 use Rattle.ir_text.specs.declared.fault.ReadEnd.TheVariants as ends
-use Rattle.ir_text.specs.declared.indices.Wanted.{Wanted}
 use Rattle.ir_text.specs.declared.fault.Fault.TheVariants.{At}
 use Rattle.ir_text.specs.Tokens.{TokenV, IsBlamed, blamed}
-use Rattle.ir_text.specs.Reading.{Outcome, Reader, ◌>>=◌, Fails, meant, wrong, next_is, token_by}
-use Rattle.ir_text.specs.Leaves.{tested}
+use Rattle.ir_text.specs.Reading.{Outcome, Fails, meant, wrong, next_is, token_by}
 use Rattle.ir_text.specs.Types.{Known}
 use Rattle.ir_text.specs.Passed.{skipped}
-use Rattle.ir_text.specs.Indices.{is_address_word, address_word, no_type, of_32_bits, field_number, field_by, opened, Counted, Field, Never, entered}
+use Rattle.ir_text.specs.Indices.{is_address_word, address_word, no_type, of_32_bits, field_number, field_by, opened, Field, entered}
 use Rattle.ir_text.specs.Constants.{width_of}
 use Rattle.ir_text.specs.OpenConstants.{fields_of, shown_entry, TypeWithin, WantedWithin}
 use Rattle.ir_text.specs.IndexNodes.{node_number, node_field, node_name, node_wanted}

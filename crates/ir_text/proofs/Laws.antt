@@ -1,13 +1,13 @@
 -- Readings in a row, and by the first token, keep the laws.
-use Rattle.std.proofs.Common.{◌≡◌, ℕ, suc, ◌+◌, ◌≤◌, length, arith, List, [], ◌∷◌, ◌++◌, Result, Ok, Err, refl, sym, ap, subst, ◌∙◌, append_assoc, ◌⊎◌, inl, inr}
+use Rattle.std.proofs.Common.{◌≡◌, ℕ, ◌+◌, ◌≤◌, length, arith, List, [], ◌∷◌, ◌++◌, Ok, Err, refl, sym, ap, subst, ◌∙◌, append_assoc, ◌⊎◌, inl, inr}
 use Rattle.std.proofs.lemmas.List.{length-append, append-nil}
 use Rattle.ir_lex.specs.declared.token.Cause.{Cause}
 use Rattle.ir_text.specs.declared.fault.Fault.{Fault}
-use Rattle.ir_text.specs.declared.fault.Fault.TheVariants.{At, Ended}
+use Rattle.ir_text.specs.declared.fault.Fault.TheVariants.{At}
 use Rattle.ir_text.specs.Tokens.{TokenV}
 use Rattle.ir_text.specs.Reading.{Outcome, Reader, ◌>>=◌}
-use Rattle.ir_text.specs.Spelled.{Spelling, InTurn, Led, nothing}
-use Rattle.ir_text.specs.Lawful.{Follow, ReadsAll, Unfaulted, SameNext, Takes, OnLine, WrongAt, Lawful, Refuses}
+use Rattle.ir_text.specs.Spelled.{Spelling, InTurn, nothing}
+use Rattle.ir_text.specs.Lawful.{Follow, ReadsAll, Unfaulted, SameNext, Takes, OnLine, WrongAt, Lawful}
 
 abbrev done : {A : Type 0} → A × List TokenV → Outcome A
 done x = Ok x

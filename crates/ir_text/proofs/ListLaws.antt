@@ -1,18 +1,18 @@
 -- Items separated by commas keep the laws.
-use Rattle.std.proofs.Common.{◌≡◌, ℕ, Bool, true, false, List, [], ◌∷◌, ◌++◌, Ok, Err, refl, sym, ap, subst, ◌∙◌, append_assoc, ◌⊎◌, inl, inr}
+use Rattle.std.proofs.Common.{◌≡◌, ℕ, Bool, true, false, List, [], ◌∷◌, ◌++◌, Ok, refl, sym, ap, subst, ◌∙◌, append_assoc, inl, inr}
 use Rattle.std.specs.Prelude.{not}
 use Rattle.std.proofs.lemmas.List.{append-nil}
 use Rattle.ir_lex.specs.declared.token.Cause.TheVariants as causes
 use Rattle.ir_text.specs.Tokens.{TokenV, is_mark}
-use Rattle.ir_text.specs.Reading.{Outcome, Reader, ◌>>=◌, next_is}
+use Rattle.ir_text.specs.Reading.{Reader, ◌>>=◌, next_is}
 use Rattle.ir_text.specs.Spelled.{Spelling, InTurn, one_token, nothing}
 use Rattle.ir_text.specs.Lawful.{Follow, Behind, anything, Lawful}
-use Rattle.ir_text.specs.Choice.{choose, Opens}
+use Rattle.ir_text.specs.Choice.{Opens}
 use Rattle.ir_text.specs.Leaves.{mark, mark_at}
-use Rattle.ir_text.specs.Repeated.{Both, repeated, each, each_under, stays}
+use Rattle.ir_text.specs.Repeated.{repeated, each, stays}
 use Rattle.ir_text.specs.Lists.{after_comma, listed_at, mark_for, filled_at, list_at, with_comma, a_listed, a_mark_for, a_filled, a_list, behind_item, closed_list}
 use Rattle.ir_text.proofs.Laws.{nothing_laws, in_turn_before}
-use Rattle.ir_text.proofs.Choices.{in_turn, weaken, respell, token_laws}
+use Rattle.ir_text.proofs.Choices.{in_turn, respell, token_laws}
 use Rattle.ir_text.proofs.ChoiceLaws.{choice, token_opens, opens_more}
 use Rattle.ir_text.proofs.RepeatedLaws.{repeated_laws}
 use Rattle.ir_text.proofs.TailLaws.{comma_opens}

@@ -1,15 +1,13 @@
 -- Marks that differ.
-use Rattle.std.proofs.Common.{◌≡◌, ℕ, Bool, true, false, List, [], ◌∷◌, ◌++◌, Result, Ok, Err, refl, sym, ap, subst, ◌∙◌}
+use Rattle.std.proofs.Common.{◌≡◌, ℕ, Bool, true, false, List, [], ◌∷◌, ◌++◌, Ok, refl, ap}
 use Rattle.std.specs.Prelude.{not}
 use lib.Pointwise.{bytes_decides}
 use Rattle.ir_lex.specs.declared.token.TokenKind.{TokenKind}
 use Rattle.ir_lex.specs.declared.token.TokenKind.TheVariants as kind
 use Rattle.ir_lex.specs.declared.token.Cause.TheVariants as causes
 use Rattle.ir_text.specs.Tokens.{TokenV, is_mark, punct_is}
-use Rattle.ir_text.specs.Reading.{next_is}
 use Rattle.ir_text.specs.Choice.{Opens}
-use Rattle.ir_text.specs.Spelled.{OneToken, one_token}
-use Rattle.ir_text.specs.Leaves.{tested, mark}
+use Rattle.ir_text.specs.Leaves.{tested}
 use Rattle.ir_text.specs.TypeSpelled.{a_mark}
 
 apart_by : (b c : ℕ) (k : TokenKind) (text : List ℕ) → punct_is (c ∷ []) kind.Punct (b ∷ []) ≡ false → punct_is (b ∷ []) k text ≡ true → punct_is (c ∷ []) k text ≡ false

@@ -1,5 +1,5 @@
 -- Reading a type of memory keeps the laws.
-use Rattle.std.proofs.Common.{◌≡◌, ℕ, ◌+◌, ◌≤◌, length, arith, Bool, true, false, cond, List, [], ◌∷◌, ◌++◌, Ok, Err, refl, sym, ap, subst, ◌∙◌, append_assoc, inl, inr}
+use Rattle.std.proofs.Common.{◌≡◌, ℕ, ◌≤◌, length, arith, Bool, true, false, cond, List, [], ◌∷◌, ◌++◌, Ok, Err, refl, sym, ap, subst, ◌∙◌, append_assoc, inl, inr}
 use Rattle.std.proofs.lemmas.List.{length-append, append-nil}
 use Rattle.ir_lex.specs.declared.token.Cause.{Cause}
 use Rattle.ir_lex.specs.declared.token.Cause.TheVariants as causes
@@ -8,7 +8,7 @@ use Rattle.ir_text.specs.declared.fault.Fault.{Fault}
 use Rattle.ir_text.specs.declared.fault.Fault.TheVariants.{At, Ended}
 use Rattle.ir_text.specs.Tokens.{TokenV, blamed}
 use Rattle.ir_text.specs.Reading.{Outcome, ◌>>=◌, wrong}
-use Rattle.ir_text.specs.Lawful.{anything, ReadsAll, Unfaulted, SameNext, Takes, OnLine, WrongAt, Lawful}
+use Rattle.ir_text.specs.Lawful.{anything, ReadsAll, Unfaulted, Takes, WrongAt, Lawful}
 use Rattle.ir_text.specs.Types.{Known, type_at}
 use Rattle.ir_text.specs.TypeSpelled.{a_type}
 use Rattle.ir_text.specs.MemoryTypes.{has_layout, memory_type_at, a_memory_type}

@@ -1,6 +1,6 @@
 -- What reading a type of memory comes to.
 use Rattle.std.proofs.Common.{◌≡◌, ℕ, List, [], ◌∷◌, Option, Some, None, Ok, Err, cond, refl, sym, ap, ◌∙◌}
-use Rattle.std.specs.Prelude.{is_some, option_map, option_and_then}
+use Rattle.std.specs.Prelude.{option_map, option_and_then}
 use Rattle.pv_base.specs.declared.name.Name.{Name}
 use Rattle.ir_lex.specs.declared.token.Cause.TheVariants as causes
 use Rattle.ir_tree.specs.declared.layout.Layout.{Layout}
@@ -13,7 +13,7 @@ use Rattle.ir_text.specs.declared.fault.ReadEnd.{ReadEnd}
 use Rattle.ir_text.specs.declared.fault.ReadEnd.TheVariants as ends
 use Rattle.ir_text.specs.declared.named.NamedBody.{NamedBody}
 use Rattle.ir_text.specs.Tokens.{TokenV, IsBlamed}
-use Rattle.ir_text.specs.Reading.{Outcome, Reader, ◌>>=◌, Fails, wrong}
+use Rattle.ir_text.specs.Reading.{Outcome, ◌>>=◌, Fails, wrong}
 use Rattle.ir_text.specs.Types.{Body, Known, type_at}
 use Rattle.ir_text.specs.Named.{own_layout, body_of, body_in, known_of, layout_in}
 use Rattle.ir_text.specs.MemoryTypes.{named_layouts, has_layout, memory_type_at}

@@ -1,7 +1,7 @@
 -- What a step of reading types leads to.
-use Rattle.std.proofs.Common.{◌≡◌, ℕ, ◌+◌, ◌≤◌, length, Bool, true, false, cond, List, [], ◌∷◌, ◌++◌, map, drop, Ok, Err, refl, sym, ap, subst, ◌∙◌, append_assoc}
+use Rattle.std.proofs.Common.{◌≡◌, ℕ, ◌+◌, ◌≤◌, length, Bool, true, false, List, [], ◌∷◌, ◌++◌, map, drop, Ok, Err, refl, sym, ap, ◌∙◌, append_assoc}
 use Rattle.std.proofs.lemmas.List.{map_push}
-use Rattle.ir_tree.specs.Trees.{TypeV, ArrayV, StructV, NoneV}
+use Rattle.ir_tree.specs.Trees.{TypeV, StructV}
 use Rattle.ir_tree.specs.Naming.{listed}
 use Rattle.ir_text.specs.declared.fault.Fault.{Fault}
 use Rattle.ir_text.specs.declared.fault.Fault.TheVariants.{Ended}
@@ -9,10 +9,10 @@ use Rattle.ir_text.specs.declared.fault.ReadEnd.{ReadEnd}
 use Rattle.ir_text.specs.declared.fault.ReadEnd.TheVariants as ends
 use Rattle.ir_text.specs.declared.nested.Open.{Open}
 use Rattle.ir_text.specs.Tokens.{TokenV, is_mark}
-use Rattle.ir_text.specs.Reading.{Outcome, Reader, ◌>>=◌, Fails, next_is, sees, meant}
+use Rattle.ir_text.specs.Reading.{Outcome, ◌>>=◌, Fails, sees, meant}
 use Rattle.ir_text.specs.Leaves.{mark_at}
-use Rattle.ir_text.specs.Repeated.{repeated, stays}
-use Rattle.ir_text.specs.Lists.{after_comma, listed_at, mark_for, filled_at, list_at}
+use Rattle.ir_text.specs.Repeated.{stays}
+use Rattle.ir_text.specs.Lists.{after_comma, listed_at, mark_for, list_at}
 use Rattle.ir_text.specs.Types.{Known, header_at, simple, type_rule, type_at}
 use Rattle.ir_text.specs.Nested.{fields_rule, array_end, fields_behind, braces, struct_end, closing, resume}
 use Rattle.ir_text.proofs.Agreeing.{comma_less}

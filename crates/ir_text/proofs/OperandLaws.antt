@@ -1,16 +1,15 @@
 -- The laws of operands.
-use Rattle.std.proofs.Common.{◌≡◌, ℕ, Bool, true, false, List, [], ◌∷◌, ◌++◌, Result, Ok, Err, refl, sym, ap, ◌∙◌}
+use Rattle.std.proofs.Common.{◌≡◌, ℕ, Bool, true, false, List, [], ◌++◌, Ok, refl, ap, ◌∙◌}
 use Rattle.std.specs.Prelude.{not}
 use Rattle.pv_base.specs.declared.name.Name.{Name}
 use Rattle.ir_lex.specs.declared.token.TokenKind.{TokenKind}
 use Rattle.ir_lex.specs.declared.token.TokenKind.TheVariants as kind
 use Rattle.ir_tree.specs.declared.instruction.Operand.{Operand}
 use Rattle.ir_tree.specs.declared.instruction.Operand.TheVariants as operand
-use Rattle.ir_tree.specs.declared.instruction.Argument.{Argument}
 use Rattle.ir_tree.specs.Trees.{TypeV, ConstantV}
 use Rattle.ir_text.specs.Tokens.{TokenV}
-use Rattle.ir_text.specs.Reading.{Reader, ◌>>=◌, next_is, token_by}
-use Rattle.ir_text.specs.Spelled.{Spelling, InTurn, one_token, nothing}
+use Rattle.ir_text.specs.Reading.{◌>>=◌, next_is, token_by}
+use Rattle.ir_text.specs.Spelled.{InTurn, one_token, nothing}
 use Rattle.ir_text.specs.Lawful.{anything, Lawful}
 use Rattle.ir_text.specs.Choice.{Opens}
 use Rattle.ir_text.specs.Types.{Known, register_type}

@@ -1,24 +1,21 @@
 -- What is passed over keeps the laws.
-use Rattle.std.proofs.Common.{◌≡◌, ℕ, suc, ◌+◌, ◌≤◌, length, Bool, true, false, cond, List, [], ◌∷◌, ◌++◌, Result, Ok, Err, refl, sym, ap, subst, ◌∙◌, ◌⊎◌, inl, inr}
-use Rattle.std.specs.Prelude.{nat_eq}
-use Rattle.std.specs.Cmp.Lexicographic.{pointwise}
+use Rattle.std.proofs.Common.{◌≡◌, ℕ, ◌+◌, ◌≤◌, length, Bool, true, false, cond, List, [], ◌∷◌, ◌++◌, Ok, Err, refl, sym, ap, subst, ◌∙◌, ◌⊎◌, inl, inr}
 use lib.Pointwise.{bytes_decides}
 use Rattle.ir_lex.specs.declared.token.TokenKind.{TokenKind}
 use Rattle.ir_lex.specs.declared.token.TokenKind.TheVariants as kind
 use Rattle.ir_lex.specs.declared.token.Cause.TheVariants as causes
-use Rattle.ir_text.specs.declared.fault.Fault.TheVariants.{At, Ended}
 use Rattle.ir_text.specs.Tokens.{TokenV, is_mark, punct_is, is_refused, blamed}
 use Rattle.ir_text.specs.Reading.{Outcome, Reader, ◌>>=◌, next_is, token_by, wrong, Fails}
 use Rattle.ir_text.specs.declared.fault.ReadEnd.{ReadEnd}
 use Rattle.ir_text.specs.declared.fault.ReadEnd.TheVariants as ends
-use Rattle.ir_text.specs.Spelled.{Spelling, InTurn, Led, one_token, nothing, never, when, unless}
+use Rattle.ir_text.specs.Spelled.{Spelling, InTurn, one_token, nothing, never, when, unless}
 use Rattle.ir_text.specs.Lawful.{Follow, Behind, anything, Lawful, Refuses}
 use Rattle.ir_text.specs.Choice.{choose, Opens}
-use Rattle.ir_text.specs.Leaves.{tested, mark, mark_at}
-use Rattle.ir_text.specs.Repeated.{repeated, repeated_under, each, each_under, stays}
+use Rattle.ir_text.specs.Leaves.{mark, mark_at}
+use Rattle.ir_text.specs.Repeated.{repeated, each, stays}
 use Rattle.ir_text.specs.Passed.{AfterWord, AfterPassed, skipped, skips, is_integer, some_integer, some_string, group_from, a_group, after_word, after_string, passed_by, passed_at, may_pass, may_pass_by, words_at, with_word, with_string, passed_led, passed_unless, some_words}
 use Rattle.ir_text.proofs.Laws.{nothing_laws, in_turn_before}
-use Rattle.ir_text.proofs.Choices.{in_turn, weaken, refusing, led, token_laws}
+use Rattle.ir_text.proofs.Choices.{in_turn, weaken, led, token_laws}
 use Rattle.ir_text.proofs.ChoiceLaws.{choice, optional, token_opens, opens_more}
 use Rattle.ir_text.proofs.Groups.{group_laws}
 use Rattle.ir_text.proofs.RepeatedLaws.{repeated_laws, repeated_is}

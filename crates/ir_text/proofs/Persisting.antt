@@ -1,12 +1,12 @@
 -- Readings that count their steps by the tokens there are.
-use Rattle.std.proofs.Common.{◌≡◌, ℕ, ◌+◌, ◌≤◌, length, arith, List, [], ◌∷◌, ◌++◌, Result, Ok, Err, refl, sym, ap, subst, ◌∙◌, append_assoc, ◌⊎◌, inl, inr}
+use Rattle.std.proofs.Common.{◌≡◌, ℕ, ◌+◌, ◌≤◌, length, arith, List, [], ◌∷◌, ◌++◌, Ok, Err, sym, ap, ◌∙◌, append_assoc, inl, inr}
 use Rattle.std.proofs.lemmas.List.{length-append, append_cancel_right}
 use Rattle.ir_lex.specs.declared.token.Cause.{Cause}
-use Rattle.ir_text.specs.declared.fault.Fault.TheVariants.{At, Ended}
+use Rattle.ir_text.specs.declared.fault.Fault.TheVariants.{At}
 use Rattle.ir_text.specs.Tokens.{TokenV}
 use Rattle.ir_text.specs.Reading.{Outcome, Reader}
 use Rattle.ir_text.specs.Spelled.{Spelling}
-use Rattle.ir_text.specs.Lawful.{Follow, ReadsAll, Unfaulted, SameNext, Takes, WrongAt, Lawful}
+use Rattle.ir_text.specs.Lawful.{Follow, Unfaulted, Takes, WrongAt, Lawful}
 
 -- a fault stays whatever more tokens there are
 pub persists : {A : Type 0} (n : ℕ) (follow : Follow) (r : Reader A) (s : Spelling A) → Lawful n follow r s → (ts more : List TokenV) (line : ℕ) (cause : Cause) → length ts ≤ n → r ts ≡ Err (At line cause) → r (ts ++ more) ≡ Err (At line cause)

@@ -1,18 +1,15 @@
 -- The laws of readings in a row, and what one more of them makes.
-use Rattle.std.proofs.Common.{◌≡◌, ℕ, zero, suc, ◌+◌, ◌≤◌, length, arith, Bool, true, false, cond, List, [], ◌∷◌, ◌++◌, Result, Ok, Err, refl, sym, ap, subst, ◌∙◌, append_assoc, ◌⊎◌, inl, inr}
-use Rattle.std.proofs.lemmas.Bool.{cases_Bool}
+use Rattle.std.proofs.Common.{◌≡◌, ℕ, zero, suc, ◌+◌, ◌≤◌, length, arith, Bool, true, false, cond, List, [], ◌∷◌, ◌++◌, Ok, Err, refl, sym, ap, ◌∙◌, append_assoc}
 use Rattle.std.proofs.lemmas.List.{append-nil, length-append}
-use Rattle.ir_text.specs.declared.fault.Fault.TheVariants.{At, Ended}
 use Rattle.ir_text.specs.declared.fault.ReadEnd.{ReadEnd}
 use Rattle.ir_text.specs.declared.fault.ReadEnd.TheVariants as ends
 use Rattle.ir_text.specs.Tokens.{TokenV}
 use Rattle.ir_text.specs.Reading.{Outcome, Reader, ◌>>=◌, gives, next_is, Fails}
-use Rattle.ir_text.specs.Spelled.{Spelling, InTurn, nothing}
-use Rattle.ir_text.specs.Lawful.{Follow, Behind, anything, unless_next, Takes, WrongAt, Lawful}
+use Rattle.ir_text.specs.Spelled.{Spelling}
+use Rattle.ir_text.specs.Lawful.{Follow, Behind, Lawful}
 use Rattle.ir_text.specs.Choice.{choose, Opens}
-use Rattle.ir_text.specs.Repeated.{Both, repeated_to, repeated_under, each_under}
-use Rattle.ir_text.proofs.Choices.{respell}
-use Rattle.ir_text.proofs.Persisting.{counted, shortens, Takers}
+use Rattle.ir_text.specs.Repeated.{repeated_to, repeated_under, each_under}
+use Rattle.ir_text.proofs.Persisting.{counted, shortens}
 use Rattle.ir_text.proofs.Repeating.{many_laws, takes}
 
 bind_same : {A B : Type 0} (n : ℕ) (o : Outcome A) (f g : A × List TokenV → Outcome B) → ((x : A × List TokenV) → o ≡ Ok x → f x ≡ g x) → (o >>= f) ≡ (o >>= g)

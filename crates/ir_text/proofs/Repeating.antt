@@ -1,18 +1,15 @@
 -- Readings in a row, as long as the next token passes a test, keep the laws.
-use Rattle.std.proofs.Common.{◌≡◌, ℕ, zero, suc, ◌+◌, ◌≤◌, length, arith, Bool, true, false, cond, List, [], ◌∷◌, ◌++◌, Result, Ok, Err, refl, sym, ap, subst, ◌∙◌, append_assoc, ◌⊎◌, inl, inr}
-use Rattle.std.proofs.lemmas.Bool.{cases_Bool}
-use Rattle.std.proofs.lemmas.List.{length-append}
-use Rattle.ir_text.specs.declared.fault.Fault.TheVariants.{At, Ended}
+use Rattle.std.proofs.Common.{◌≡◌, ℕ, zero, suc, ◌≤◌, length, arith, Bool, false, List, [], ◌∷◌, ◌++◌, Ok, refl, sym, ap, subst, ◌∙◌, append_assoc, ◌⊎◌, inl, inr}
 use Rattle.ir_text.specs.Tokens.{TokenV}
-use Rattle.ir_text.specs.Reading.{Outcome, Reader, ◌>>=◌, gives, next_is}
+use Rattle.ir_text.specs.Reading.{Reader, ◌>>=◌, gives, next_is}
 use Rattle.ir_text.specs.Spelled.{Spelling, InTurn, nothing}
-use Rattle.ir_text.specs.Lawful.{Follow, Behind, anything, unless_next, Takes, WrongAt, Lawful}
-use Rattle.ir_text.specs.Choice.{choose, Opens}
-use Rattle.ir_text.specs.Repeated.{Both, repeated_to, repeated_under, each_under}
+use Rattle.ir_text.specs.Lawful.{Follow, Behind, Lawful}
+use Rattle.ir_text.specs.Choice.{Opens}
+use Rattle.ir_text.specs.Repeated.{repeated_to, each_under}
 use Rattle.ir_text.proofs.Laws.{nothing_laws, in_turn_before}
-use Rattle.ir_text.proofs.Choices.{weaken, respell}
+use Rattle.ir_text.proofs.Choices.{respell}
 use Rattle.ir_text.proofs.ChoiceLaws.{choice}
-use Rattle.ir_text.proofs.Persisting.{counted, shortens, Takers}
+use Rattle.ir_text.proofs.Persisting.{Takers}
 
 module _ {S A : Type 0} (n : ℕ) (test : TokenV → Bool) (item : S → Reader A) (next : S → A → S) (spells : S → Spelling A) (between : Follow)
     (laws : (state : S) → Lawful n between (item state) (spells state))

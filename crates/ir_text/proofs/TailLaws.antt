@@ -1,13 +1,13 @@
 -- What stands behind an instruction or a global keeps the laws.
-use Rattle.std.proofs.Common.{◌≡◌, ℕ, Bool, true, false, cond, List, [], ◌∷◌, ◌++◌, Ok, Err, refl, sym, ap, ◌∙◌, ◌⊎◌, inl, inr}
+use Rattle.std.proofs.Common.{ℕ, Bool, true, false, cond, List, Ok, refl, ◌⊎◌, inl, inr}
 use Rattle.std.specs.Prelude.{codes}
 use Rattle.ir_lex.specs.declared.token.Cause.TheVariants as causes
-use Rattle.ir_text.specs.Tokens.{TokenV, is_mark, is_word, blamed}
-use Rattle.ir_text.specs.Reading.{Outcome, Reader, ◌>>=◌, token_by, wrong}
-use Rattle.ir_text.specs.Spelled.{Spelling, InTurn, Led, one_token, nothing, by_test, when}
-use Rattle.ir_text.specs.Lawful.{Follow, Behind, anything, Lawful, Refuses}
+use Rattle.ir_text.specs.Tokens.{TokenV, is_mark, is_word}
+use Rattle.ir_text.specs.Reading.{token_by, wrong}
+use Rattle.ir_text.specs.Spelled.{Spelling, one_token, nothing, by_test, when}
+use Rattle.ir_text.specs.Lawful.{Behind, anything, Lawful, Refuses}
 use Rattle.ir_text.specs.Choice.{Opens}
-use Rattle.ir_text.specs.Leaves.{mark, mark_at}
+use Rattle.ir_text.specs.Leaves.{mark}
 use Rattle.ir_text.specs.Passed.{some_integer, some_string, some_word}
 use Rattle.ir_text.specs.Lists.{after_comma, with_comma}
 use Rattle.ir_text.specs.Tails.{note_behind, note_at, notes_at, tail_at, tails_at, behind_sign, a_note, some_notes, tail_led, a_tail, some_tails}

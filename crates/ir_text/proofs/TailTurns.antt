@@ -1,12 +1,11 @@
 -- The turns of loops over what is passed over.
-use Rattle.std.proofs.Common.{◌≡◌, ℕ, ◌+◌, ◌≤◌, length, arith, Bool, true, false, List, Ok, Err, sym, ap, subst, ◌∙◌}
+use Rattle.std.proofs.Common.{◌≡◌, ◌+◌, ◌≤◌, length, arith, Bool, true, false, List, Ok, sym, ap, subst, ◌∙◌}
 use Rattle.ir_lex.specs.declared.token.Cause.TheVariants as causes
 use Rattle.ir_text.specs.declared.fault.ReadEnd.{ReadEnd}
 use Rattle.ir_text.specs.Tokens.{TokenV, is_mark}
 use Rattle.ir_text.specs.Reading.{Outcome, Reader, next_is, Fails}
-use Rattle.ir_text.specs.Spelled.{Spelling, one_token}
-use Rattle.ir_text.specs.Lawful.{anything, Lawful}
-use Rattle.ir_text.specs.Choice.{Opens}
+use Rattle.ir_text.specs.Spelled.{one_token}
+use Rattle.ir_text.specs.Lawful.{anything}
 use Rattle.ir_text.specs.Leaves.{mark}
 use Rattle.ir_text.specs.Lists.{after_comma, with_comma}
 use Rattle.ir_text.specs.Passed.{skipped}

@@ -1,20 +1,19 @@
 -- Items behind commas and what is passed over behind them keep the laws.
-use Rattle.std.proofs.Common.{◌≡◌, ℕ, Bool, true, false, List, [], ◌∷◌, ◌++◌, Option, Some, None, Ok, Err, refl, sym, ap, subst, ◌∙◌, append_assoc, ◌⊎◌, inl, inr}
+use Rattle.std.proofs.Common.{◌≡◌, ℕ, Bool, true, false, List, [], ◌∷◌, ◌++◌, Option, Some, None, Ok, refl, sym, ap, subst, ◌∙◌, append_assoc, ◌⊎◌, inl, inr}
 use Rattle.std.proofs.lemmas.List.{append-nil}
-use Rattle.ir_lex.specs.declared.token.Cause.TheVariants as causes
 use Rattle.ir_text.specs.Tokens.{TokenV, is_mark}
-use Rattle.ir_text.specs.Reading.{Outcome, Reader, ◌>>=◌, next_is}
+use Rattle.ir_text.specs.Reading.{Reader, ◌>>=◌, next_is}
 use Rattle.ir_text.specs.Spelled.{Spelling, InTurn, one_token, nothing}
-use Rattle.ir_text.specs.Lawful.{Follow, Behind, anything, Lawful}
-use Rattle.ir_text.specs.Choice.{choose, Opens}
+use Rattle.ir_text.specs.Lawful.{Follow, Behind, Lawful}
+use Rattle.ir_text.specs.Choice.{Opens}
 use Rattle.ir_text.specs.Leaves.{mark, mark_at}
-use Rattle.ir_text.specs.Repeated.{Both, repeated_under, each, each_under, stays}
+use Rattle.ir_text.specs.Repeated.{repeated_under, each, each_under}
 use Rattle.ir_text.specs.Lists.{with_comma}
 use Rattle.ir_text.specs.Tails.{tail_at, a_tail, some_tails}
 use Rattle.ir_text.specs.Trailing.{passed_tail, trailing_item, still, kept, comma_item, trailing_at, a_trailing}
 use Rattle.ir_text.proofs.Laws.{nothing_laws, in_turn_before}
-use Rattle.ir_text.proofs.Choices.{in_turn, weaken, respell, token_laws}
-use Rattle.ir_text.proofs.ChoiceLaws.{choice, token_opens, opens_more}
+use Rattle.ir_text.proofs.Choices.{in_turn, respell, token_laws}
+use Rattle.ir_text.proofs.ChoiceLaws.{choice, opens_more}
 use Rattle.ir_text.proofs.RepeatedLaws.{repeated_laws}
 use Rattle.ir_text.proofs.TailLaws.{tail_laws, comma_opens}
 

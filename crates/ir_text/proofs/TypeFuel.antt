@@ -1,14 +1,13 @@
 -- More depth than there are tokens changes nothing.
-use Rattle.std.proofs.Common.{◌≡◌, ℕ, zero, suc, ◌+◌, ◌≤◌, length, arith, Bool, true, false, cond, List, [], ◌∷◌, Ok, Err, refl, sym, ap, subst, ◌∙◌}
+use Rattle.std.proofs.Common.{◌≡◌, ℕ, zero, suc, ◌≤◌, length, arith, true, false, List, [], ◌∷◌, Ok, Err, refl, ap, ◌∙◌}
 use Rattle.ir_tree.specs.Trees.{TypeV, ArrayV, StructV}
 use Rattle.ir_tree.specs.Naming.{listed}
 use Rattle.ir_text.specs.declared.fault.Fault.TheVariants.{Ended}
-use Rattle.ir_text.specs.Tokens.{TokenV, is_mark}
-use Rattle.ir_text.specs.Reading.{Outcome, Reader, ◌>>=◌, meant}
+use Rattle.ir_text.specs.Tokens.{TokenV}
+use Rattle.ir_text.specs.Reading.{Outcome, Reader, ◌>>=◌}
 use Rattle.ir_text.specs.Lawful.{anything, Lawful}
 use Rattle.ir_text.specs.Leaves.{mark_at}
-use Rattle.ir_text.specs.Lists.{list_at}
-use Rattle.ir_text.specs.Types.{Known, header_at, simple, array_rule, struct_rule, packed_rule, type_rule, type_to, type_at}
+use Rattle.ir_text.specs.Types.{Known, header_at, array_rule, struct_rule, packed_rule, type_rule, type_to, type_at}
 use Rattle.ir_text.specs.TypeSpelled.{a_type}
 use Rattle.ir_text.proofs.Persisting.{counted, shortens}
 use Rattle.ir_text.proofs.Agreeing.{bind_agree, keeps, Agree, Shortens, mark_keeps, list_agree}

@@ -9,11 +9,10 @@ use Rattle.ir_lex.specs.declared.token.Cause.TheVariants as causes
 use Rattle.ir_lex.specs.Spelling.{number}
 use Rattle.ir_tree.specs.Trees.{TypeV, IntV, PtrV, VoidV, ArrayV, StructV, NamedV, TypesV, NoneV, MoreV}
 use Rattle.ir_tree.specs.Naming.{listed}
-use Rattle.ir_text.specs.declared.fault.Fault.TheVariants.{At, Ended}
 use Rattle.ir_text.specs.Tokens.{TokenV, same, is_mark, punct_is}
-use Rattle.ir_text.specs.Reading.{Outcome, Reader, ◌>>=◌, meant, token_by}
-use Rattle.ir_text.specs.Spelled.{Spelling, InTurn, Led, OneToken, one_token, nothing, never, by_test}
-use Rattle.ir_text.specs.Lawful.{Follow, anything, Lawful, Refuses}
+use Rattle.ir_text.specs.Reading.{Reader, ◌>>=◌, meant, token_by}
+use Rattle.ir_text.specs.Spelled.{Spelling, InTurn, Led, one_token, nothing, by_test}
+use Rattle.ir_text.specs.Lawful.{anything, Lawful, Refuses}
 use Rattle.ir_text.specs.Choice.{Opens}
 use Rattle.ir_text.specs.Leaves.{mark, word, mark_at, word_at, spelled_name}
 use Rattle.ir_text.specs.Repeated.{Both}
@@ -22,7 +21,7 @@ use Rattle.ir_text.specs.Lists.{list_at, closed_list, behind_item}
 use Rattle.ir_text.specs.Types.{Known, word_type, int_type, count, header_at, simple, simple_by, array_rule, struct_rule, packed_rule, type_rule, type_to}
 use Rattle.ir_text.specs.TypeSpelled.{a_mark, a_word, a_type, some_fields, more_fields}
 use Rattle.ir_text.proofs.Laws.{nothing_laws}
-use Rattle.ir_text.proofs.Choices.{in_turn, respell, led_more, one_each, token_laws, lower, dead}
+use Rattle.ir_text.proofs.Choices.{in_turn, respell, led_more, one_each, token_laws, lower}
 use Rattle.ir_text.proofs.ListLaws.{list_laws, closed_laws}
 use Rattle.ir_text.proofs.Marks.{apart, marked, is_marked, mark_opens_not}
 

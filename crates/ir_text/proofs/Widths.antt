@@ -1,9 +1,9 @@
 -- The widths of integers at types.
-use Rattle.std.proofs.Common.{◌≡◌, ℕ, List, [], Some, slice_get, refl, sym, ap, ◌∙◌}
+use Rattle.std.proofs.Common.{◌≡◌, ℕ, [], Some, slice_get, refl, sym, ap, ◌∙◌}
 use Rattle.ir_tree.specs.declared.nodes.TypeNode.{TypeNode}
 use Rattle.ir_tree.specs.declared.nodes.TypeNode.TheVariants as node
 use Rattle.ir_tree.specs.Table.{Table}
-use Rattle.ir_tree.specs.Trees.{TypeV, IntV, PtrV}
+use Rattle.ir_tree.specs.Trees.{TypeV, PtrV}
 use Rattle.ir_tree.specs.Naming.{Grows, name_at, type_at, type_of_node}
 use Rattle.ir_tree.proofs.Showing.{meaning_from}
 use Rattle.ir_text.specs.Constants.{width_of, node_width}

@@ -1,5 +1,5 @@
 -- How constants are spelled.
-use Rattle.std.specs.Prelude.{◌≡◌, ℕ, true, false, List, Option, Some, codes}
+use Rattle.std.specs.Prelude.{ℕ, true, false, List, Option, Some, codes}
 use Rattle.ir_tree.specs.Trees.{TypeV, ConstantV, IntegerC, NullC, ZeroC, TextC, ArrayC, StructC, NameC, AddressC, ElementsV, NoneC, MoreC}
 use Rattle.ir_text.specs.Tokens.{TokenV}
 use Rattle.ir_text.specs.Spelled.{one_token}

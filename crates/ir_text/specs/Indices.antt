@@ -1,5 +1,5 @@
 -- The indices of a constant address: each goes into the type that the one before it leads to.
-use Rattle.std.specs.Prelude.{ℕ, Bool, nat_eq, if◌then◌else◌, List, [], ◌∷◌, Option, Some, None, is_some, option_and_then, Result, Ok, Err, codes, ◌||◌}
+use Rattle.std.specs.Prelude.{ℕ, Bool, nat_eq, if◌then◌else◌, Option, Some, None, is_some, option_and_then, Result, Ok, Err, codes, ◌||◌}
 use Rattle.ir_lex.specs.declared.token.Cause.{Cause}
 use Rattle.ir_lex.specs.declared.token.Cause.TheVariants as causes
 use Rattle.ir_tree.specs.Layouts.{field_type}

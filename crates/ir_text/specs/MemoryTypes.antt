@@ -9,10 +9,9 @@ use Rattle.ir_tree.specs.Table.{Table}
 use Rattle.ir_tree.specs.Trees.{TypeV}
 use Rattle.ir_tree.specs.Naming as naming
 use Rattle.ir_text.specs.declared.fault.Fault.TheVariants.{Ended}
-use Rattle.ir_text.specs.Tokens.{TokenV}
 use Rattle.ir_text.specs.Reading.{Reader, ◌>>=◌, wrong}
 use Rattle.ir_text.specs.Spelled.{Spelling}
-use Rattle.ir_text.specs.Types.{Body, Known, type_at}
+use Rattle.ir_text.specs.Types.{Known, type_at}
 use Rattle.ir_text.specs.TypeSpelled.{a_type}
 
 -- the layouts of the named types of the whole text

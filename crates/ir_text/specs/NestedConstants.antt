@@ -1,12 +1,11 @@
 -- Constants that nest, each at the width of its type, after the LLVM Language Reference.
-use Rattle.std.specs.Prelude.{ℕ, zero, suc, true, false, if◌then◌else◌, List, [], ◌∷◌, ◌++◌, length, Option, Some, Result, Ok, Err, codes}
-use Rattle.ir_lex.specs.declared.token.Cause.{Cause}
+use Rattle.std.specs.Prelude.{ℕ, zero, suc, true, false, if◌then◌else◌, List, [], ◌∷◌, ◌++◌, length, Option, Some, Ok, Err, codes}
 use Rattle.ir_tree.specs.Trees.{TypeV, ConstantV, TextC, ArrayC, StructC, AddressC, TypesV, ElementsV, NoneC, MoreC}
 use Rattle.ir_text.specs.declared.fault.Fault.TheVariants.{Ended}
 use Rattle.ir_text.specs.declared.nested_constants.Bracket.{Bracket}
 use Rattle.ir_text.specs.declared.nested_constants.Bracket.TheVariants as bracket
 use Rattle.ir_text.specs.Tokens.{TokenV, is_mark, is_word}
-use Rattle.ir_text.specs.Reading.{Outcome, Reader, ◌>>=◌, Meaning, meant, token_by}
+use Rattle.ir_text.specs.Reading.{Outcome, Reader, ◌>>=◌, meant, token_by}
 use Rattle.ir_text.specs.Leaves.{mark_at, string_at}
 use Rattle.ir_text.specs.Passed.{skipped}
 use Rattle.ir_text.specs.Repeated.{repeated_under}

@@ -1,5 +1,5 @@
 -- Operands at a type.
-use Rattle.std.specs.Prelude.{◌≡◌, ℕ, Bool, true, false, if◌then◌else◌, List, [], ◌∷◌, Result, Ok, Err}
+use Rattle.std.specs.Prelude.{Bool, true, false, Result, Ok, Err}
 use Rattle.std.proofs.Common.{◌⊎◌}
 use Rattle.pv_base.specs.declared.name.Name.{Name}
 use Rattle.ir_lex.specs.declared.token.TokenKind.{TokenKind}

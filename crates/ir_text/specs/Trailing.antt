@@ -1,13 +1,13 @@
 -- Items behind commas, and then what is passed over.
-use Rattle.std.specs.Prelude.{◌≡◌, Bool, true, false, List, [], ◌∷◌, Option, Some, None, Ok}
+use Rattle.std.specs.Prelude.{Bool, true, false, List, [], ◌∷◌, Option, Some, None, Ok}
 use Rattle.ir_text.specs.Tokens.{TokenV, is_mark}
 use Rattle.ir_text.specs.Reading.{Reader, ◌>>=◌}
 use Rattle.ir_text.specs.Choice.{choose}
-use Rattle.ir_text.specs.Spelled.{Spelling, InTurn, one_token, nothing}
-use Rattle.ir_text.specs.Leaves.{mark, mark_at}
+use Rattle.ir_text.specs.Spelled.{Spelling, InTurn, nothing}
+use Rattle.ir_text.specs.Leaves.{mark_at}
 use Rattle.ir_text.specs.Repeated.{repeated_under, each}
 use Rattle.ir_text.specs.Lists.{with_comma}
-use Rattle.ir_text.specs.Tails.{tail_at, a_tail, some_tails}
+use Rattle.ir_text.specs.Tails.{tail_at, some_tails}
 
 -- one of what is passed over, in the place of an item
 abbrev pub passed_tail : {A : Type 0} → Reader (Option A)

@@ -1,11 +1,10 @@
 -- The types of names, by the names' numbers.
-use Rattle.std.proofs.Common.{◌≡◌, ℕ, zero, suc, ◌+◌, ◌<◌, ◌≤◌, Bool, true, false, List, [], ◌∷◌, ◌++◌, map, take, length, Option, Some, None, slice_get, get_or, refl, sym, ap, subst, ◌∙◌, arith, All, inl, inr, eqb, eqb-true, eq-eqb, get_or-set_other, get_or-set_same}
-use Rattle.std.specs.Prelude.{option_map, nat_eq, if◌then◌else◌, slice_set, is_some, not}
+use Rattle.std.proofs.Common.{◌≡◌, ℕ, zero, suc, ◌<◌, Bool, true, false, List, [], ◌∷◌, ◌++◌, length, Option, Some, None, slice_get, get_or, refl, sym, ap, ◌∙◌, arith, inl, inr, eqb, eqb-true, eq-eqb, get_or-set_other, get_or-set_same}
+use Rattle.std.specs.Prelude.{option_map, nat_eq, if◌then◌else◌, is_some, not}
 use Rattle.std.proofs.Math.ListN.{set}
-use Rattle.std.specs.List.{AllByRecursion, IsDistinct}
+use Rattle.std.specs.List.{AllByRecursion}
 use Rattle.std.proofs.lemmas.Bool.{cases_Bool}
-use Rattle.std.proofs.lemmas.List.Elements.{recursion_from_All}
-use Rattle.std.proofs.lemmas.Option.{get_or_from_slice_get, slice_get_within, slice_get-get_or}
+use Rattle.std.proofs.lemmas.Option.{get_or_from_slice_get, slice_get-get_or}
 use lib.Pointwise.{bytes_decides}
 use Rattle.pv_base.specs.declared.name.Name.{Name}
 use Rattle.pv_base.specs.declared.name.Name.TheVariants.{Named, Numbered}
@@ -13,9 +12,8 @@ use Rattle.ir_tree.specs.declared.items.NamedType.{NamedType}
 use Rattle.ir_tree.specs.Table.{Table, IsTable, same_name}
 use Rattle.ir_tree.specs.Trees.{TypeV}
 use Rattle.ir_tree.specs.Naming.{name_at, type_at}
-use Rattle.ir_tree.specs.Shown.{shown_named}
 use Rattle.ir_tree.specs.Layouts.{type_named}
-use Rattle.ir_tree.specs.Filling.{body_of, NamedWithin, named_types, AreBodies}
+use Rattle.ir_tree.specs.Filling.{body_of, NamedWithin, named_types}
 use Rattle.ir_tree.proofs.Places.{one_place}
 
 some_if : (m n : NamedType ℕ ℕ) (ns : List (NamedType ℕ ℕ)) (x b : ℕ) (c : Bool) → (if c then Some m.of else body_of ns x) ≡ Some b → (body_of ns x ≡ Some b → body_of (ns ++ n ∷ []) x ≡ Some b)

@@ -1,12 +1,9 @@
 -- Every layout is bounded.
-use Rattle.std.proofs.Common.{◌≡◌, ℕ, zero, suc, ◌+◌, ◌*◌, ◌^◌, ◌<◌, ◌≤◌, max, Bool, true, false, List, [], ◌∷◌, map, Option, Some, None, refl, sym, ap, ◌∙◌, arith}
-use Rattle.std.specs.Prelude.{IfSome, nat_lt, nat_eq, if◌then◌else◌, option_and_then, fold, ◌||◌}
+use Rattle.std.proofs.Common.{◌≡◌, ℕ, ◌+◌, ◌^◌, ◌<◌, ◌≤◌, max, Bool, true, false, Option, Some, None, refl, arith}
+use Rattle.std.specs.Prelude.{IfSome, nat_lt, if◌then◌else◌}
 use borrow.Author.Tests.{ltb-true}
-use Rattle.pv_base.specs.declared.name.Name.{Name}
 use Rattle.ir_tree.specs.declared.layout.Layout.{Layout}
-use Rattle.ir_tree.specs.declared.items.NamedType.{NamedType}
-use Rattle.ir_tree.specs.Trees.{TypeV, IntV, PtrV, VoidV, ArrayV, StructV, NamedV, TypesV, NoneV, MoreV}
-use Rattle.ir_tree.specs.Layouts.{sized, round_up, int_layout, array_layout, field_align, field_place, with_field, joined, no_fields, struct_layout, layout_with, layouts_with, type_named, named_layout}
+use Rattle.ir_tree.specs.Layouts.{sized, field_align, field_place, with_field, joined}
 use Rattle.ir_tree.specs.Bounds.{IsLayout}
 
 sized_if : (size align : ℕ) (b : Bool) → (b ≡ true → size < 2 ^ 63) → 0 < align → align ≤ 8 → IfSome (if b then Some (record { size = size; align = align }) else None) IsLayout

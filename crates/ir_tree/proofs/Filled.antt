@@ -1,23 +1,20 @@
 -- What is found is the layout, and where nothing more can be found there is none.
-use Rattle.std.proofs.Common.{◌≡◌, ℕ, zero, suc, ◌+◌, ◌<◌, ◌≤◌, Bool, true, false, List, [], ◌∷◌, ◌++◌, map, take, length, Option, Some, None, slice_get, get_or, refl, sym, ap, subst, ◌∙◌, arith, All, inl, inr, eqb, eqb-true, eq-eqb}
-use Rattle.std.specs.Prelude.{option_and_then, option_map, fold, count_by, is_some, IfSome, slice_set, nat_eq, if◌then◌else◌}
-use Rattle.std.specs.List.{AllByRecursion, IsDistinct}
+use Rattle.std.proofs.Common.{◌≡◌, ℕ, zero, suc, ◌+◌, ◌<◌, ◌≤◌, Bool, true, false, List, [], ◌∷◌, map, take, length, Option, Some, None, slice_get, get_or, refl, sym, ap, subst, ◌∙◌, arith, All, inl, inr, eqb, eqb-true, eq-eqb}
+use Rattle.std.specs.Prelude.{option_and_then, option_map, nat_eq, if◌then◌else◌}
 use Rattle.std.proofs.lemmas.List.Elements.{recursion_from_All}
 use Rattle.std.proofs.lemmas.List.{get_or-take}
-use Rattle.std.proofs.lemmas.Option.{get_or_from_slice_get, slice_get_within, slice_get-get_or}
+use Rattle.std.proofs.lemmas.Option.{slice_get-get_or}
 use Rattle.pv_base.specs.declared.name.Name.{Name}
-use Rattle.pv_base.specs.declared.name.Name.TheVariants.{Named, Numbered}
 use Rattle.ir_tree.specs.declared.layout.Layout.{Layout}
 use Rattle.ir_tree.specs.declared.items.NamedType.{NamedType}
 use Rattle.ir_tree.specs.declared.nodes.TypeNode.{TypeNode}
 use Rattle.ir_tree.specs.declared.nodes.TypeNode.TheVariants as node
-use Rattle.ir_tree.specs.Table.{Table, IsTable, TypeWithin, same_name}
-use Rattle.ir_tree.specs.Trees.{TypeV, IntV, PtrV, VoidV, ArrayV, StructV, NamedV, TypesV, NoneV, MoreV}
-use Rattle.ir_tree.specs.Naming.{meanings, name_at, type_at, types_by, type_of_node, listed}
+use Rattle.ir_tree.specs.Table.{Table, IsTable, TypeWithin}
+use Rattle.ir_tree.specs.Trees.{TypeV, PtrV, ArrayV, StructV}
+use Rattle.ir_tree.specs.Naming.{meanings, name_at, type_at, type_of_node, listed}
 use Rattle.ir_tree.specs.Shown.{shown_named}
 use Rattle.ir_tree.specs.Layouts.{struct_layout, layout_with, layouts_with, type_named, named_layout, layout_of}
-use Rattle.ir_tree.specs.Bounds.{IsLayout}
-use Rattle.ir_tree.specs.Filling.{answer_at, body_of, named_answer, node_layout, AreBounded, NamedWithin, named_types, AreBodies, IsDone, Finds, Tries, AreLayouts}
+use Rattle.ir_tree.specs.Filling.{answer_at, body_of, named_answer, node_layout, NamedWithin, named_types, AreBodies, IsDone, Finds, AreLayouts}
 use Rattle.ir_tree.proofs.Showing.{meaning_from, types_same}
 use Rattle.ir_tree.specs.Filling.{Reaches, Stays, Further}
 use Rattle.std.proofs.lemmas.Bool.{cases_Bool}

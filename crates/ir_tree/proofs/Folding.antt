@@ -1,5 +1,5 @@
 -- A fold over what a function makes of the items, an item further.
-use Rattle.std.proofs.Common.{◌≡◌, ℕ, zero, suc, ◌+◌, ◌<◌, List, [], ◌∷◌, length, map, take, get_or, refl, sym, ap, ◌∙◌, arith, add-one}
+use Rattle.std.proofs.Common.{◌≡◌, ℕ, zero, suc, ◌+◌, ◌<◌, List, [], ◌∷◌, length, map, take, get_or, refl, arith, add-one}
 use Rattle.std.specs.Prelude.{fold}
 
 pub fold_map_more : {A B C : Type 0} (f : C → B → C) (a : C) (h : A → B) (xs : List A) (i : ℕ) (d : A) → i < length xs → fold f a (map h (take (i + 1) xs)) ≡ f (fold f a (map h (take i xs))) (h (get_or xs i d))

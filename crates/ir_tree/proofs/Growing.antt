@@ -1,5 +1,5 @@
 -- More layouts of the parts give no other layout of the whole.
-use Rattle.std.proofs.Common.{◌≡◌, ℕ, zero, suc, ◌+◌, ◌<◌, ◌≤◌, Bool, true, false, List, [], ◌∷◌, map, length, Option, Some, None, slice_get, get_or, refl, sym, ap, subst, ◌∙◌, arith, All, ◌*◌, ◌-◌}
+use Rattle.std.proofs.Common.{◌≡◌, ℕ, zero, suc, ◌+◌, ◌<◌, ◌≤◌, Bool, List, [], ◌∷◌, map, Option, Some, None, refl, sym, subst, arith, ◌*◌, ◌-◌}
 use Rattle.std.specs.Prelude.{option_and_then, fold}
 use Rattle.std.specs.List.{AllByRecursion}
 use Rattle.std.proofs.lemmas.List.Elements.{recursion_from_All}
@@ -10,7 +10,7 @@ use Rattle.ir_tree.specs.declared.nodes.TypeNode.{TypeNode}
 use Rattle.ir_tree.specs.declared.nodes.TypeNode.TheVariants as node
 use Rattle.ir_tree.specs.Table.{TypeWithin}
 use Rattle.ir_tree.specs.Trees.{TypeV, IntV, PtrV, VoidV, ArrayV, StructV, NamedV, TypesV, NoneV, MoreV}
-use Rattle.ir_tree.specs.Layouts.{sized, array_layout, with_field, joined, no_fields, struct_layout, layout_with, layouts_with, type_named, named_layout, round_up}
+use Rattle.ir_tree.specs.Layouts.{sized, joined, no_fields, layout_with, layouts_with, type_named, named_layout, round_up}
 use Rattle.ir_tree.specs.Filling.{node_layout}
 
 -- a layout of the first is one of the second

@@ -1,25 +1,23 @@
 -- Where the fields of a type stand, by what was found.
-use Rattle.std.proofs.Common.{◌≡◌, ℕ, zero, suc, ◌+◌, ◌<◌, ◌≤◌, Bool, true, false, List, [], ◌∷◌, map, take, length, Option, Some, None, slice_get, get_or, refl, sym, ap, subst, ◌∙◌, arith, All, inl, inr}
-use Rattle.std.specs.Prelude.{option_map, option_and_then, fold}
+use Rattle.std.proofs.Common.{◌≡◌, ℕ, ◌<◌, ◌≤◌, Bool, List, [], ◌∷◌, map, length, Option, Some, None, slice_get, get_or, refl, sym, ap, ◌∙◌, arith, inl, inr}
+use Rattle.std.specs.Prelude.{option_map, option_and_then}
 use Rattle.std.specs.List.{AllByRecursion}
 use Rattle.std.proofs.lemmas.List.Elements.{recursion_from_All}
-use Rattle.std.proofs.lemmas.List.{length-map, get_or_past}
+use Rattle.std.proofs.lemmas.List.{get_or_past}
 use Rattle.std.proofs.lemmas.Option.{slice_get-get_or, slice_get_within}
 use Rattle.std.proofs.lemmas.Bool.{cases_Bool}
 use Rattle.std.specs.Prelude.{nat_lt}
 use borrow.Author.Tests.{ltb-true, ltb-false}
-use Rattle.pv_base.specs.declared.name.Name.{Name}
 use Rattle.ir_tree.specs.declared.layout.Layout.{Layout}
 use Rattle.ir_tree.specs.declared.items.NamedType.{NamedType}
 use Rattle.ir_tree.specs.declared.nodes.TypeNode.{TypeNode}
 use Rattle.ir_tree.specs.declared.nodes.TypeNode.TheVariants as node
 use Rattle.ir_tree.specs.Table.{Table, IsTable}
-use Rattle.ir_tree.specs.Trees.{TypeV}
-use Rattle.ir_tree.specs.Naming.{name_at, type_at, types_by, type_of_node}
-use Rattle.ir_tree.specs.Layouts.{joined, no_fields, field_place, place_in, struct_fields, fields_of, offset_of, layout_with, layouts_with, named_layout, type_named}
-use Rattle.ir_tree.specs.Filling.{answer_at, body_of, named_types, NamedWithin, ArePlaces, AllPlaces, NodePlaces, AreLayouts, Found, IsFound, place_at, node_place}
+use Rattle.ir_tree.specs.Naming.{name_at, type_at, type_of_node}
+use Rattle.ir_tree.specs.Layouts.{field_place, place_in, struct_fields, offset_of, layout_with, layouts_with, named_layout, type_named}
+use Rattle.ir_tree.specs.Filling.{answer_at, body_of, named_types, NamedWithin, ArePlaces, NodePlaces, Found, IsFound, place_at, node_place}
 use Rattle.ir_tree.proofs.Filled.{type_is, fields_by}
-use Rattle.ir_tree.proofs.Bodies.{named_body, body_inside, body_known}
+use Rattle.ir_tree.proofs.Bodies.{named_body, body_inside}
 
 no_place : (packed : Bool) (so : Option Layout) → option_and_then (λ s. option_map (field_place packed s) None) so ≡ None
 no_place packed None = refl

@@ -1,7 +1,7 @@
 -- Where fields stand, as they are laid out one after another.
-use Rattle.std.proofs.Common.{◌≡◌, ℕ, zero, suc, ◌+◌, ◌<◌, ◌≤◌, Bool, true, false, List, [], ◌∷◌, ◌++◌, map, take, length, Option, Some, None, slice_get, get_or, refl, sym, ap, subst, ◌∙◌, arith, add-one, inl, inr, length-append}
-use Rattle.std.specs.Prelude.{option_map, option_and_then, fold, IfSome}
-use Rattle.std.proofs.lemmas.List.{take-map, length-map, get_or_push, get_or_append_left}
+use Rattle.std.proofs.Common.{◌≡◌, ℕ, zero, suc, ◌+◌, ◌<◌, Bool, List, [], ◌∷◌, ◌++◌, map, take, length, Option, Some, None, slice_get, get_or, refl, subst, arith, length-append}
+use Rattle.std.specs.Prelude.{option_map, option_and_then, fold}
+use Rattle.std.proofs.lemmas.List.{take-map}
 use borrow.Author.Count.{below_more}
 use Rattle.ir_tree.specs.declared.layout.Layout.{Layout}
 use Rattle.ir_tree.specs.declared.nodes.TypeNode.{TypeNode}
@@ -9,7 +9,7 @@ use Rattle.ir_tree.specs.declared.nodes.TypeNode.TheVariants as node
 use Rattle.std.proofs.lemmas.Option.{slice_get-get_or}
 use Rattle.ir_tree.specs.Table.{Table}
 use Rattle.ir_tree.specs.Layouts.{joined, no_fields, field_place, place_in}
-use Rattle.ir_tree.specs.Filling.{answer_at, ArePlaces, NodePlaces, AllPlaces}
+use Rattle.ir_tree.specs.Filling.{NodePlaces, AllPlaces}
 
 map_at : (at : ℕ → Option Layout) (ks : List ℕ) (i : ℕ) → i < length ks → get_or (map at ks) i None ≡ at (get_or ks i 0)
 map_at at [] i lt = absurd (omega arith)

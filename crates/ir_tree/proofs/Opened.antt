@@ -1,15 +1,14 @@
 -- What a type is a name of, by what was found, and what a number that the table lacks is taken for.
-use Rattle.std.proofs.Common.{◌≡◌, ℕ, zero, suc, ◌<◌, List, [], ◌∷◌, ◌++◌, length, Option, Some, None, slice_get, get_or, refl, sym, ap, ◌∙◌, arith, All}
+use Rattle.std.proofs.Common.{◌≡◌, ℕ, zero, suc, ◌<◌, List, [], ◌∷◌, ◌++◌, length, Some, None, slice_get, get_or, refl, sym, ap, ◌∙◌}
 use Rattle.std.specs.Prelude.{option_map}
 use Rattle.std.proofs.lemmas.List.Elements.{recursion_from_All}
-use Rattle.pv_base.specs.declared.name.Name.{Name}
 use Rattle.ir_tree.specs.declared.items.NamedType.{NamedType}
 use Rattle.ir_tree.specs.declared.nodes.TypeNode.{TypeNode}
 use Rattle.ir_tree.specs.declared.nodes.TypeNode.TheVariants as node
 use Rattle.ir_tree.specs.Table.{Table, IsTable}
 use Rattle.ir_tree.specs.Trees.{PtrV, NullC}
 use Rattle.ir_tree.specs.Naming.{meanings, name_at, type_at, type_of_node, constant_at, constant_of_node}
-use Rattle.ir_tree.specs.Layouts.{opened, type_named}
+use Rattle.ir_tree.specs.Layouts.{opened}
 use Rattle.ir_tree.specs.Filling.{named_types, NamedWithin, Found, IsFound, node_body}
 use Rattle.ir_tree.proofs.Filled.{type_is}
 use Rattle.ir_tree.proofs.Bodies.{named_body}

@@ -1,11 +1,10 @@
 -- A node stands for its tree, from the table on that has it.
-use Rattle.std.proofs.Common.{◌≡◌, ℕ, zero, suc, ◌+◌, ◌<◌, Bool, List, [], ◌∷◌, ◌++◌, length, take, get_or, slice_get, Some, None, Result, Ok, Err, refl, sym, ap, subst, ◌∙◌, append_assoc, arith, All}
+use Rattle.std.proofs.Common.{◌≡◌, ℕ, zero, suc, ◌<◌, Bool, List, [], ◌∷◌, ◌++◌, length, take, get_or, slice_get, Some, Result, Ok, Err, refl, sym, ap, ◌∙◌, append_assoc, All}
 use Rattle.std.specs.Prelude.{IfOk}
 use Rattle.std.specs.List.{AllByRecursion}
 use Rattle.std.proofs.lemmas.List.{append-nil, get_or-take}
 use Rattle.std.proofs.lemmas.List.Elements.{recursion_from_All}
-use Rattle.std.proofs.lemmas.Option.{get_or_from_slice_get, slice_get_within, slice_get-get_or}
-use Rattle.pv_base.specs.declared.name.Name.{Name}
+use Rattle.std.proofs.lemmas.Option.{slice_get_within, slice_get-get_or}
 use Rattle.pv_base.specs.declared.name.Name.TheVariants.{Numbered}
 use Rattle.pv_base.specs.declared.want.Memory.{Memory}
 use Rattle.int_num.specs.Integer.{Integer}
@@ -15,8 +14,8 @@ use Rattle.ir_tree.specs.declared.nodes.Element.{Element}
 use Rattle.ir_tree.specs.declared.nodes.ConstantNode.{ConstantNode}
 use Rattle.ir_tree.specs.declared.nodes.ConstantNode.TheVariants as constant
 use Rattle.ir_tree.specs.Table.{Table}
-use Rattle.ir_tree.specs.Trees.{TypeV, IntV, PtrV, VoidV, ArrayV, StructV, NamedV, TypesV, NoneV, MoreV}
-use Rattle.ir_tree.specs.Trees.{ConstantV, IntegerC, NullC, ZeroC, TextC, ArrayC, StructC, NameC, AddressC, ElementsV, NoneC, MoreC}
+use Rattle.ir_tree.specs.Trees.{TypeV, IntV, PtrV, VoidV, ArrayV, StructV, NamedV}
+use Rattle.ir_tree.specs.Trees.{ConstantV, IntegerC, NullC, ZeroC, TextC, ArrayC, StructC, NameC, AddressC}
 use Rattle.ir_tree.specs.Naming.{Grows, Shows, ShowsConstant, ElementWithin, ElementsWithin, meanings, name_at, type_at, types_at, types_by, type_of_node, constant_at, elements_at, elements_by, constant_of_node}
 
 -- what a node stands for, from what stands before it

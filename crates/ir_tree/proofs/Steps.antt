@@ -1,20 +1,19 @@
 -- What one layout more changes, and what a pass does.
-use Rattle.std.proofs.Common.{◌≡◌, ℕ, zero, suc, ◌+◌, ◌*◌, ◌^◌, ◌<◌, ◌≤◌, max, Bool, true, false, List, [], ◌∷◌, map, length, Option, Some, None, slice_get, get_or, refl, sym, ap, subst, ◌∙◌, arith, get_or-set_other, get_or-set_same, inl, inr, eqb, eqb-true, eq-eqb}
+use Rattle.std.proofs.Common.{◌≡◌, ℕ, zero, suc, ◌+◌, ◌*◌, ◌<◌, ◌≤◌, Bool, true, false, List, [], ◌∷◌, map, length, Option, Some, None, get_or, refl, sym, ap, subst, ◌∙◌, arith, get_or-set_other, get_or-set_same, inl, inr, eqb, eqb-true, eq-eqb}
 use Rattle.std.proofs.Math.ListN.{set, length-set}
 use Rattle.std.proofs.lemmas.Bool.{cases_Bool}
 use borrow.Author.Count.{below_more}
-use Rattle.std.specs.Prelude.{IfSome, nat_lt, nat_eq, if◌then◌else◌, option_and_then, fold, ◌||◌, slice_set}
+use Rattle.std.specs.Prelude.{IfSome, nat_eq, if◌then◌else◌, option_and_then, fold, ◌||◌, slice_set}
 use Rattle.std.proofs.lemmas.Option.{slice_get_within}
 use Rattle.ir_tree.specs.declared.layout.Layout.{Layout}
-use Rattle.ir_tree.specs.declared.items.NamedType.{NamedType}
 use Rattle.ir_tree.specs.declared.nodes.TypeNode.{TypeNode}
 use Rattle.ir_tree.specs.declared.nodes.TypeNode.TheVariants as node
 use Rattle.ir_tree.specs.Table.{Table}
-use Rattle.ir_tree.specs.Layouts.{sized, round_up, int_layout, joined, no_fields, struct_layout}
+use Rattle.ir_tree.specs.Layouts.{sized, round_up, int_layout, joined, no_fields}
 use Rattle.ir_tree.specs.Bounds.{IsLayout}
-use Rattle.ir_tree.specs.Filling.{answer_at, named_answer, node_layout, AreBounded, IsDone, Finds, Tries, Reaches, Stays, Further, missing, PassEnds, Passes, Settles}
+use Rattle.ir_tree.specs.Filling.{answer_at, named_answer, node_layout, AreBounded, IsDone, Finds, Tries, Reaches, Stays, Further, missing, PassEnds, Passes}
 use Rattle.ir_tree.proofs.Bounded.{sized_bound, joined_bound}
-use Rattle.ir_tree.proofs.Growing.{Upto, upto_by, upto_same}
+use Rattle.ir_tree.proofs.Growing.{Upto, upto_by}
 
 -- ---- a node's layout is bounded
 

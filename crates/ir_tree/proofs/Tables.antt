@@ -1,5 +1,5 @@
 -- A table stays one.
-use Rattle.std.proofs.Common.{◌≡◌, ℕ, zero, suc, ◌<◌, ◌≤◌, ◌^◌, ◌+◌, Bool, true, false, List, [], ◌∷◌, ◌++◌, length, slice_get, Some, refl, sym, ap, ◌∙◌, arith, All, rules, length-append}
+use Rattle.std.proofs.Common.{◌≡◌, ℕ, zero, suc, ◌<◌, ◌≤◌, ◌^◌, Bool, true, false, List, [], ◌∷◌, ◌++◌, length, slice_get, Some, refl, sym, ◌∙◌, arith, All, length-append}
 use Rattle.std.specs.Prelude.{if◌then◌else◌}
 use Rattle.std.specs.List.{AllByRecursion, IsDistinct}
 use Rattle.pv_base.specs.declared.name.Name.TheVariants.{Named, Numbered}
@@ -10,8 +10,8 @@ use Rattle.ir_tree.specs.declared.nodes.TypeNode.TheVariants as node
 use Rattle.ir_tree.specs.declared.nodes.Element.{Element}
 use Rattle.ir_tree.specs.declared.nodes.ConstantNode.{ConstantNode}
 use Rattle.ir_tree.specs.declared.nodes.ConstantNode.TheVariants as constant
-use Rattle.ir_tree.specs.Table.{Table, IsTable, TypeWithin, ElementBefore, ConstantWithin, same_name, with_name, name_among}
-use Rattle.ir_tree.specs.Naming.{Grows, ElementWithin, ElementsWithin}
+use Rattle.ir_tree.specs.Table.{Table, IsTable, TypeWithin, ElementBefore, ConstantWithin, same_name}
+use Rattle.ir_tree.specs.Naming.{Grows, ElementsWithin}
 
 within_more : (a b k : ℕ) (n : TypeNode) → a ≤ b → TypeWithin a k n → TypeWithin b k n
 within_more a b k (node.Int w) le h = tt

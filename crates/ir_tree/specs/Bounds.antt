@@ -1,5 +1,5 @@
 -- What every layout keeps.
-use Rattle.std.specs.Prelude.{ℕ, ◌<◌, ◌≤◌, ◌^◌}
+use Rattle.std.specs.Prelude.{◌<◌, ◌≤◌, ◌^◌}
 use Rattle.ir_tree.specs.declared.layout.Layout.{Layout}
 
 -- a size below 2^63, and an alignment of 1 to 8

@@ -1,5 +1,5 @@
 -- Layouts by number, as they are found.
-use Rattle.std.specs.Prelude.{◌≡◌, ◌<◌, ◌+◌, ℕ, nat_eq, if◌then◌else◌, List, [], ◌∷◌, length, map, Option, Some, None, IsSome, IfSome, IfNone, option_and_then, option_map, slice_get, slice_index_or, slice_set, Bool, true, false, All}
+use Rattle.std.specs.Prelude.{◌≡◌, ◌<◌, ◌+◌, ℕ, nat_eq, if◌then◌else◌, List, [], ◌∷◌, length, map, Option, Some, None, IfSome, option_and_then, slice_get, slice_index_or, slice_set, Bool, true, false, All}
 use Rattle.pv_base.specs.declared.name.Name.{Name}
 use Rattle.ir_tree.specs.declared.layout.Layout.{Layout}
 use Rattle.ir_tree.specs.declared.items.NamedType.{NamedType}
@@ -7,7 +7,7 @@ use Rattle.ir_tree.specs.declared.nodes.TypeNode.{TypeNode}
 use Rattle.ir_tree.specs.declared.nodes.TypeNode.TheVariants as node
 use Rattle.ir_tree.specs.Table.{Table}
 use Rattle.ir_tree.specs.Trees.{TypeV}
-use Rattle.ir_tree.specs.Naming.{name_at, type_at}
+use Rattle.ir_tree.specs.Naming.{type_at}
 use Rattle.ir_tree.specs.Shown.{shown_named}
 use Rattle.ir_tree.specs.Layouts.{int_layout, array_layout, struct_layout, place_in, layout_of}
 use Rattle.ir_tree.specs.Bounds.{IsLayout}

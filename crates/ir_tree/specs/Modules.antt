@@ -1,12 +1,12 @@
 -- A module, as its parts, and layouts within it.
-use Rattle.std.specs.Prelude.{ℕ, ◌<◌, List, map, length, Option}
+use Rattle.std.specs.Prelude.{ℕ, List, Option}
 use Rattle.pv_base.specs.declared.name.Name.{Name}
 use Rattle.ir_tree.specs.declared.items.NamedType.{NamedType}
 use Rattle.ir_tree.specs.declared.items.Global.{Global}
 use Rattle.ir_tree.specs.declared.items.Function.{Function}
 use Rattle.ir_tree.specs.declared.layout.Layout.{Layout}
 use Rattle.ir_tree.specs.Table.{Table}
-use Rattle.ir_tree.specs.Trees.{TypeV, ConstantV}
+use Rattle.ir_tree.specs.Trees.{TypeV}
 use Rattle.ir_tree.specs.Naming.{type_at}
 use Rattle.ir_tree.specs.Layouts.{layout_of, offset_of}
 use Rattle.ir_tree.specs.Filling.{named_types}

@@ -1,5 +1,5 @@
 -- Instructions and items with names, types and constants in place of their numbers.
-use Rattle.std.specs.Prelude.{ℕ, List, map, option_map}
+use Rattle.std.specs.Prelude.{ℕ, map, option_map}
 use Rattle.pv_base.specs.declared.name.Name.{Name}
 use Rattle.ir_tree.specs.declared.instruction.Operand.{Operand}
 use Rattle.ir_tree.specs.declared.instruction.Operand.TheVariants as operand

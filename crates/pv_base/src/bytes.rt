@@ -1,5 +1,5 @@
 //! Bytes, which contracts see as a list of numbers below 256.
-ghost use Rattle.std.specs.Prelude.{◌≡◌, ℕ, ◌++◌, List as Sequence, [], ◌∷◌, length, IfOk, OnOk, OnErr};
+ghost use Rattle.std.specs.Prelude.{◌≡◌, ℕ, ◌++◌, List as Sequence, [], ◌∷◌, length, take, IfOk, OnOk, OnErr};
 ghost use Rattle.std.specs.Prelude.{nat_eq};
 ghost use Rattle.std.proofs.Common.{rules};
 ghost use Rattle.std.specs.Hash as fed;
@@ -56,6 +56,13 @@ impl Bytes {
         ensures { self.new ≡ [] }
     {
         self.items.clear();
+    }
+
+    /// Drops the bytes from a place on; a place behind the last drops none.
+    pub fn truncate(&mut self, len: usize)
+        ensures { self.new ≡ take len self.old }
+    {
+        self.items.truncate(len);
     }
 
     /// Appends one byte, or changes nothing.

@@ -9,4 +9,5 @@ pub mod list;
 pub mod name;
 pub mod outside;
 pub mod place;
+pub mod shared;
 pub mod want;

@@ -109,6 +109,15 @@ impl<T> List<T> {
     {
         self.items.clear();
     }
+
+    /// Drops the items from a place on; a place behind the last drops none.
+    pub fn truncate(&mut self, len: usize)
+    where
+        T: Drop,
+        ensures { self.new ≡ take len self.old }
+    {
+        self.items.truncate(len);
+    }
 }
 
 impl<T: Copy> List<T> {

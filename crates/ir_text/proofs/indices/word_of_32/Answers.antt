@@ -1,5 +1,4 @@
-use Rattle.std.proofs.Common.{◌≡◌, ◌∙◌, true, arith, eq-eqb, sym}
-use Rattle.std.specs.Prelude.{nat_eq}
+use Rattle.std.proofs.Common.{◌≡◌, ◌∙◌, arith, eq-eqb, sym}
 use Rattle.std.proofs.lemmas.Result.{err_from_is_err_and}
 use Rattle.ir_tree.specs.Naming.{type_at}
 use Rattle.ir_text.specs.Reading.{token_by}

@@ -1,5 +1,4 @@
-use Rattle.std.proofs.Common.{◌≡◌, length, drop, sym, ap, ◌∙◌}
-use Rattle.ir_tree.specs.Naming.{type_at}
+use Rattle.std.proofs.Common.{drop, sym, ◌∙◌}
 use Rattle.ir_text.specs.Named.{known_of, layout_in}
 use Rattle.ir_text.proofs.LaidOut.{type_kept, laid_later}
 use Rattle.ir_text.proofs.MemoryTypeLaws.{memory_none, memory_fails, read_laid, read_unlaid}

@@ -1,7 +1,7 @@
-use Rattle.std.proofs.Common.{◌∙◌, refl, sym}
+use Rattle.std.proofs.Common.{◌∙◌, sym}
 use Rattle.std.proofs.lemmas.Result.{err_from_is_err_and}
 use Rattle.ir_tree.specs.Naming.{type_at}
-use Rattle.ir_text.proofs.NestedSteps.{goes_on, ends_at, bind_fails, fails_is}
+use Rattle.ir_text.proofs.NestedSteps.{goes_on, ends_at, fails_is}
 use Rattle.ir_text.proofs.nested.end.Goals as goal
 
 pub returns-then-eat-clause-steps : goal.returns-then-eat-clause-steps

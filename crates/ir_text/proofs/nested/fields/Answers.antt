@@ -1,4 +1,4 @@
-use Rattle.std.proofs.Common.{◌∙◌, refl, sym}
+use Rattle.std.proofs.Common.{◌∙◌, sym}
 use Rattle.std.proofs.lemmas.Result.{err_from_is_err_and}
 use Rattle.ir_text.proofs.NestedSteps.{fields_shut, fields_open, fails_is}
 use Rattle.ir_text.proofs.nested.fields.Goals as goal

@@ -1,4 +1,4 @@
-use Rattle.std.proofs.Common.{◌∙◌, refl, sym, map}
+use Rattle.std.proofs.Common.{◌∙◌, sym, map}
 use Rattle.std.proofs.lemmas.Result.{err_from_is_err_and}
 use Rattle.std.proofs.lemmas.List.{map_push}
 use Rattle.ir_tree.specs.Naming.{type_at, constant_at}
@@ -6,7 +6,6 @@ use Rattle.ir_text.specs.Named.{known_of}
 use Rattle.ir_text.specs.OpenConstants.{shown_element}
 use Rattle.ir_text.proofs.NestedSteps.{fails_is}
 use Rattle.ir_text.proofs.ConstantSteps.{goes_on, ends_at}
-use Rattle.ir_text.proofs.ConstantTurns.{element_pushed}
 use Rattle.ir_text.proofs.nested_constants.behind_element.Goals as goal
 
 pub returns-then-eat-clause-steps : goal.returns-then-eat-clause-steps

@@ -1,10 +1,10 @@
-use Rattle.std.proofs.Common.{◌≡◌, ◌∙◌, refl, sym, map, ap}
+use Rattle.std.proofs.Common.{◌∙◌, sym, map}
 use Rattle.std.specs.Prelude.{option_map}
 use Rattle.std.proofs.lemmas.Result.{err_from_is_err_and}
 use Rattle.ir_tree.specs.Naming.{type_at, constant_at}
 use Rattle.ir_tree.proofs.Showing.{grows_then}
 use Rattle.ir_text.specs.Named.{known_of}
-use Rattle.ir_text.specs.OpenConstants.{shown_element, shown_entry, fields_of}
+use Rattle.ir_text.specs.OpenConstants.{shown_element, fields_of}
 use Rattle.ir_text.proofs.NestedSteps.{fails_is}
 use Rattle.ir_text.proofs.ConstantSteps.{index_last, more_counted, more_field, more_never}
 use Rattle.ir_text.proofs.nested_constants.behind_index.Goals as goal

@@ -1,8 +1,4 @@
-use Rattle.std.proofs.Common.{◌≡◌, ◌∙◌, refl, map, ap}
-use Rattle.std.proofs.lemmas.List.{map_push}
-use Rattle.ir_tree.specs.Naming.{type_at, constant_at}
 use Rattle.ir_tree.proofs.Showing.{grows_then, type_within_more}
-use Rattle.ir_text.specs.OpenConstants.{shown_element, fields_of}
 use Rattle.ir_text.proofs.ConstantTurns.{address_more, indexed}
 use Rattle.ir_text.proofs.ConstantSteps.{field_from}
 use Rattle.ir_text.proofs.nested_constants.named_field.Goals as goal

@@ -1,7 +1,4 @@
-use Rattle.std.proofs.Common.{◌∙◌, sym, refl}
-use Rattle.std.proofs.lemmas.Result.{err_from_is_err_and}
-use Rattle.ir_tree.proofs.Showing.{grows_then}
-use Rattle.ir_text.proofs.NestedSteps.{bind_fails, fails_is}
+use Rattle.std.proofs.Common.{◌∙◌, sym}
 use Rattle.ir_text.proofs.operands.operand.Goals as goal
 
 pub returns-then-sees_local-clause-reads : goal.returns-then-sees_local-clause-reads

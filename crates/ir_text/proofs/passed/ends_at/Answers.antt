@@ -1,4 +1,4 @@
-use Rattle.std.proofs.Common.{refl, sym, ◌∙◌, ap}
+use Rattle.std.proofs.Common.{refl}
 use Rattle.ir_text.specs.Passed.{stops_at}
 use Rattle.ir_text.proofs.Among.{any_among}
 use Rattle.ir_text.proofs.passed.ends_at.Goals as goal

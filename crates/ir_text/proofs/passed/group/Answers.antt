@@ -1,4 +1,4 @@
-use Rattle.std.proofs.Common.{◌≡◌, ◌≤◌, ◌+◌, ℕ, length, false, arith, refl, sym, ap, ◌∙◌, leb}
+use Rattle.std.proofs.Common.{◌≡◌, ◌+◌, ℕ, length, false, arith, refl, sym, ap, ◌∙◌, leb}
 use Rattle.std.proofs.lemmas.Bool.{lt-leb}
 use Rattle.ir_text.specs.Passed.{group_from}
 use Rattle.ir_text.proofs.Groups.{opened, inner, plain, last, turned, ends_open}

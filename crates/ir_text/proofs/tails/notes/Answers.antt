@@ -1,9 +1,8 @@
 use Rattle.std.proofs.Common.{◌∙◌, sym}
 use Rattle.std.proofs.lemmas.Result.{err_from_is_err_and}
 use Rattle.ir_text.specs.Tokens.{is_mark}
-use Rattle.ir_text.specs.Lists.{after_comma}
-use Rattle.ir_text.specs.Tails.{note_at, tail_at}
-use Rattle.ir_text.proofs.TailTurns.{on, fail, out, note_less, tail_less}
+use Rattle.ir_text.specs.Tails.{note_at}
+use Rattle.ir_text.proofs.TailTurns.{on, fail, out, note_less}
 use Rattle.ir_text.proofs.tails.notes.Goals as goal
 
 pub loop-cursor-preserved : goal.loop-cursor-preserved

@@ -1,4 +1,4 @@
-use Rattle.std.proofs.Common.{◌≡◌, ◌+◌, ◌<◌, ℕ, ◌∷◌, [], ◌++◌, map, length, get_or, None, sym, ◌∙◌, arith, length-append, Option}
+use Rattle.std.proofs.Common.{◌≡◌, ℕ, ◌∷◌, [], map, None, ◌∙◌, arith, length-append, Option}
 use Rattle.ir_tree.proofs.Bounded.{joined_bound}
 use Rattle.ir_tree.proofs.Folding.{fold_map_more}
 use Rattle.ir_tree.proofs.Offsets.{next_place, each_more}

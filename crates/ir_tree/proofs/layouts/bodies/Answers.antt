@@ -1,4 +1,4 @@
-use Rattle.std.proofs.Common.{◌≡◌, ◌+◌, ◌<◌, ◌++◌, ◌∷◌, [], take, get_or, length, length-set, sym, ap, ◌∙◌}
+use Rattle.std.proofs.Common.{take, get_or, length-set}
 use Rattle.std.proofs.lemmas.List.{take_more}
 use Rattle.ir_tree.specs.declared.items.NamedType.{NamedType}
 use Rattle.ir_tree.proofs.Bodies.{bodies_set, bodies_kept, read_none, read_some}

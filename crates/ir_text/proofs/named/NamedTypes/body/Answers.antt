@@ -1,4 +1,4 @@
-use Rattle.std.proofs.Common.{◌≡◌, sym, ap, ◌∙◌}
+use Rattle.std.proofs.Common.{ap, ◌∙◌}
 use Rattle.pv_base.specs.contracts.name.NamePartialEq.TheImpl.{eq-value}
 use Rattle.ir_tree.specs.Table.{same_name}
 use Rattle.ir_tree.proofs.Tables.{spelled}

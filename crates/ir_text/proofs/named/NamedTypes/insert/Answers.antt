@@ -1,8 +1,6 @@
-use Rattle.std.proofs.Common.{◌≡◌, List, sym, ap, subst, ◌∙◌}
-use Rattle.pv_base.specs.declared.name.Name.{Name}
+use Rattle.std.proofs.Common.{sym, subst}
 use Rattle.pv_base.specs.contracts.name.NamePartialEq.TheImpl.{eq-value}
 use Rattle.ir_tree.proofs.Tables.{spelled}
-use Rattle.ir_text.specs.declared.named.NamedBody.{NamedBody}
 use Rattle.ir_text.specs.Named.{HasLayouts}
 use Rattle.ir_text.proofs.Bodies.{inserted, layouts_kept, inserted_after}
 use Rattle.ir_text.proofs.named.NamedTypes.insert.Goals as goal

@@ -1,5 +1,4 @@
-use Rattle.std.proofs.Common.{◌≡◌, ◌<◌, ◌^◌, ◌++◌, ◌∷◌, [], List, length, slice_get, Some, arith}
-use Rattle.ir_tree.specs.declared.nodes.TypeNode.{TypeNode}
+use Rattle.std.proofs.Common.{◌<◌, ◌^◌, length, arith}
 use Rattle.ir_tree.specs.Table.{Table}
 use Rattle.ir_tree.proofs.Tables.{table_typed, last_of_push, types_grow}
 use Rattle.ir_tree.proofs.table.Names.add_type.Goals as goal

@@ -1,8 +1,5 @@
-use Rattle.std.proofs.Common.{◌≡◌, ℕ, ◌≤◌, ◌∷◌, [], ◌++◌, List, Some, slice_get, rules, sym, ap, subst, ◌∙◌, true, length, arith, length-append}
-use Rattle.std.specs.Prelude.{if◌then◌else◌}
-use Rattle.pv_base.specs.declared.name.Name.{Name}
+use Rattle.std.proofs.Common.{◌≡◌, Some, slice_get, rules, sym, ap, ◌∙◌, true}
 use Rattle.pv_base.specs.contracts.name.NamePartialEq.TheImpl.{eq-value}
-use Rattle.ir_tree.specs.Table.{Table}
 use Rattle.ir_tree.proofs.Places.{one_place}
 use Rattle.ir_tree.proofs.Tables.{table_named, longer, names_grow, distinct_spelled}
 use Rattle.ir_tree.proofs.table.Names.number.Goals as goal

@@ -1,4 +1,4 @@
-use Rattle.std.proofs.Common.{Option, subst, sym, arith, lit<, lit≤}
+use Rattle.std.proofs.Common.{Option, subst, sym, lit<, lit≤}
 use Rattle.std.specs.Prelude.{IfSome}
 use Rattle.std.proofs.lemmas.Option.{slice_get_within}
 use Rattle.ir_tree.specs.declared.layout.Layout.{Layout}

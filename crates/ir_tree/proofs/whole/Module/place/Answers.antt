@@ -1,7 +1,4 @@
-use Rattle.std.proofs.Common.{refl, ◌≡◌, ◌<◌, ◌∙◌, sym, Some, None, slice_get, length}
-use Rattle.std.proofs.lemmas.Option.{slice_get-get_or}
-use Rattle.ir_tree.specs.declared.nodes.TypeNode.{TypeNode}
-use Rattle.ir_tree.specs.declared.nodes.TypeNode.TheVariants as node
+use Rattle.std.proofs.Common.{refl, ◌∙◌, sym}
 use Rattle.ir_tree.proofs.Looking.{place_right}
 use Rattle.ir_tree.proofs.Opened.{type_past}
 use Rattle.ir_tree.proofs.whole.Module.place.Goals as goal
