@@ -251,20 +251,28 @@ fn fault_of_whole(tree: &Module) -> Option<CheckError>
     }
 }
 
-/// The first fault of a module, if it has one: by globals, then by the sites of functions, then the whole, and at one place
-/// the first cause of the order.
+/// The first fault of a module, if it has one, by what was found of it.
 #[tactic(auto, using(crate::proofs::FindingLemmas::first_is))]
-pub fn find_fault(alloc: Global, tree: &Module) -> Result<Option<CheckError>, Memory>
+fn first_fault(alloc: Global, tree: &Module, facts: &Facts) -> Result<Option<CheckError>, Memory>
+    requires { AreFacts tree.now facts.now }
     ensures { IfOk result (λ r. r ≡ first_fault (seen tree.now)) }
 {
-    let facts = find_facts(alloc, tree)?;
     let fault = globals_fault(tree, &facts.tables)?;
     if fault.is_some() {
         return Ok(fault);
     }
-    let fault = functions_fault(alloc, tree, &facts)?;
+    let fault = functions_fault(alloc, tree, facts)?;
     if fault.is_some() {
         return Ok(fault);
     }
     Ok(fault_of_whole(tree))
+}
+
+/// The first fault of a module, if it has one: by globals, then by the sites of functions, then the whole, and at one place
+/// the first cause of the order.
+pub fn find_fault(alloc: Global, tree: &Module) -> Result<Option<CheckError>, Memory>
+    ensures { IfOk result (λ r. r ≡ first_fault (seen tree.now)) }
+{
+    let facts = find_facts(alloc, tree)?;
+    first_fault(alloc, tree, &facts)
 }

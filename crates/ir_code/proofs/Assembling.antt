@@ -65,17 +65,16 @@ scope_right t f names labels joins registers all found blocks n l k =
     let joins_is : joins ≡ (scope_of t f).joins = k ∙ (λ j. map (λ b. joins_of b.instructions) (blocks j)) in
     λ j. record { registers = names_is j; labels = labels_is j; joins = joins_is j }
 
-pub function_right : (m : Items) (t : Tables) (f : Function ℕ ℕ ℕ) (s : Scope) (parameters types : List Scalar) (result : Option Scalar) (blocks : List BlockCode) (none edges : List Edge) (external : Option External)
-    (registers : List Register) (all : List (Block ℕ ℕ ℕ)) (params : List (Param ℕ ℕ)) (linkage : Linkage)
-    → registers ≡ registers_of t f → all ≡ f.blocks → params ≡ f.params → linkage ≡ linkage_of m.names f → none ≡ []
-    → s ≡ scope_of t f → parameters ≡ map (λ p. scalar_or_pointer t p.of) params → result ≡ scalar_at t f.result → types ≡ map (λ r. r.of) registers
-    → blocks ≡ blocks_from m t s 0 (length none) all → edges ≡ none ++ flat_map (edges_of t s) all → external ≡ external_of linkage
+pub function_right : (m : Items) (t : Tables) (f : Function ℕ ℕ ℕ) (s : Scope) (parameters types : List Scalar) (result : Option Scalar) (blocks : List BlockCode) (edges : List Edge) (external : Option External)
+    (all : List (Block ℕ ℕ ℕ)) (params : List (Param ℕ ℕ)) (linkage : Linkage)
+    → all ≡ f.blocks → params ≡ f.params → linkage ≡ linkage_of m.names f
+    → s ≡ scope_of t f → parameters ≡ map (λ p. scalar_or_pointer t p.of) params → result ≡ scalar_at t f.result → types ≡ map (λ r. r.of) (registers_of t f)
+    → blocks ≡ blocks_from m t s 0 0 all → edges ≡ flat_map (edges_of t s) all → external ≡ external_of linkage
     → record { parameters = parameters; result = result; registers = types; blocks = blocks; edges = edges; external = external; declared = f.declared } ≡ function_of m t f
 unfolding function_of
-function_right m t f s parameters types result blocks none edges external registers all params linkage found within listed linked empty scope p r g b e x =
+function_right m t f s parameters types result blocks edges external all params linkage within listed linked scope p r g b e x =
     let parameters_is : parameters ≡ map (λ p. scalar_or_pointer t p.of) f.params = p ∙ (λ j. map (λ p. scalar_or_pointer t p.of) (listed j)) in
-    let types_is : types ≡ map (λ r. r.of) (registers_of t f) = g ∙ (λ j. map (λ r. r.of) (found j)) in
-    let blocks_is : blocks ≡ blocks_from m t (scope_of t f) 0 0 f.blocks = b ∙ (λ j. blocks_from m t (scope j) 0 (length (empty j)) (within j)) in
-    let edges_is : edges ≡ flat_map (edges_of t (scope_of t f)) f.blocks = e ∙ (λ j. empty j ++ flat_map (edges_of t (scope j)) (within j)) in
+    let blocks_is : blocks ≡ blocks_from m t (scope_of t f) 0 0 f.blocks = b ∙ (λ j. blocks_from m t (scope j) 0 0 (within j)) in
+    let edges_is : edges ≡ flat_map (edges_of t (scope_of t f)) f.blocks = e ∙ (λ j. flat_map (edges_of t (scope j)) (within j)) in
     let external_is : external ≡ external_of (linkage_of m.names f) = x ∙ ap external_of linked in
-    λ j. record { parameters = parameters_is j; result = r j; registers = types_is j; blocks = blocks_is j; edges = edges_is j; external = external_is j; declared = f.declared }
+    λ j. record { parameters = parameters_is j; result = r j; registers = g j; blocks = blocks_is j; edges = edges_is j; external = external_is j; declared = f.declared }

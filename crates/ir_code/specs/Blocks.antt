@@ -152,6 +152,15 @@ module _ (t : Tables) (s : Scope) where
   ending exit tree.Unreachable = Some op.Unreachable
   ending exit _ = None
 
+  -- an instruction whose value needs those of its operands alone; none for every other
+  abbrev pub computed : Instruction ℕ ℕ ℕ → Option Op
+  computed (tree.Binary to what flags of left right) = binary t s.registers to what flags of left right
+  computed (tree.Cast to what flags of value target) = cast t s.registers to what flags of value target
+  computed (tree.Freeze to of value) = freeze t s.registers to of value
+  computed (tree.Compare to pred of left right) = compare t s.registers to pred of left right
+  computed (tree.Select to condition of on_true on_false) = select t s.registers to condition of on_true on_false
+  computed _ = None
+
 -- over the module too
 module _ (m : Items) (t : Tables) (s : Scope) where
   -- an instruction that is no phi of those that its block begins with

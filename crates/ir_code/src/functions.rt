@@ -2,7 +2,7 @@
 ghost use Rattle.std.specs.Prelude.{◌≡◌, ◌+◌, ◌<◌, ◌^◌, ◌++◌, IfOk, OnOk, length, map, Some};
 ghost use Rattle.std.specs.List.{flat_map};
 ghost use Rattle.ir_code.specs.Tables.{scalar_or_pointer, linkage_of};
-ghost use Rattle.ir_code.specs.Blocks.{joins_of, edges_of, block_of, blocks_from};
+ghost use Rattle.ir_code.specs.Blocks.{joins_of, edges_of, block_of, blocks_from, registers_of};
 ghost use Rattle.ir_code.specs.Fitting.{BlocksFit};
 ghost use Rattle.ir_code.specs.Coding.{scope_of, function_of};
 
@@ -104,8 +104,47 @@ fn parameters_of(alloc: Global, lookups: &Lookups, params: &[Param]) -> Result<L
     Ok(types)
 }
 
-/// A function that is linked so.
+/// The blocks of a function, and their edges.
+fn blocks_and_edges(
+    alloc: Global,
+    module: &Module,
+    lookups: &Lookups,
+    scope: &Scope,
+    all: &[Block],
+) -> Result<(List<BlockCode>, List<Edge>), Memory>
+    requires { length lookups.now.sizes ≡ length «module».now.names.types }
+    ensures blocks { IfOk result (λ p. p.0 ≡ blocks_from «module».now lookups.now scope.now 0 0 all.now) }
+    ensures edges { IfOk result (λ p. p.1 ≡ flat_map (edges_of lookups.now scope.now) all.now) }
+    ensures fits { IfOk result (λ p. BlocksFit p.0) }
+{
+    let mut edges = List::new(alloc);
+    let blocks = blocks_of(alloc, module, lookups, scope, all, &mut edges)?;
+    Ok((blocks, edges))
+}
 
+/// What the instructions of a function are resolved in, and the types of its registers.
+fn scope_of(
+    alloc: Global,
+    lookups: &Lookups,
+    function: &Function,
+) -> Result<(Scope, List<Scalar>), Memory>
+    ensures scope { IfOk result (λ p. p.0 ≡ scope_of lookups.now function.now) }
+    ensures types { IfOk result (λ p. p.1 ≡ map (λ r. r.of) (registers_of lookups.now function.now)) }
+{
+    let blocks = function.blocks.as_slice();
+    let labels = labels_of(alloc, blocks)?;
+    let joins = all_joins(alloc, blocks)?;
+    let registers = registers_of(alloc, lookups, function)?;
+    let types = registers.types(alloc)?;
+    let scope = Scope {
+        registers: registers.into_names(),
+        labels,
+        joins,
+    };
+    Ok((scope, types))
+}
+
+/// A function that is linked so.
 pub(crate) fn function_of(
     alloc: Global,
     module: &Module,
@@ -118,20 +157,14 @@ pub(crate) fn function_of(
     ensures code { IfOk result (λ f. f ≡ function_of «module».now lookups.now function.now) }
     ensures fits { IfOk result (λ f. BlocksFit f.blocks) }
 {
-    let blocks = function.blocks.as_slice();
-    let registers = registers_of(alloc, lookups, function)?;
-    let types = registers.types(alloc)?;
-    let scope = Scope {
-        registers: registers.into_names(),
-        labels: labels_of(alloc, blocks)?,
-        joins: all_joins(alloc, blocks)?,
-    };
-    let mut edges = List::new(alloc);
-    let blocks = blocks_of(alloc, module, lookups, &scope, blocks, &mut edges)?;
+    let all = function.blocks.as_slice();
+    let parameters = parameters_of(alloc, lookups, function.params.as_slice())?;
+    let (scope, registers) = scope_of(alloc, lookups, function)?;
+    let (blocks, edges) = blocks_and_edges(alloc, module, lookups, &scope, all)?;
     Ok(FunctionCode {
-        parameters: parameters_of(alloc, lookups, function.params.as_slice())?,
+        parameters,
         result: lookups.scalar(function.result),
-        registers: types,
+        registers,
         blocks,
         edges,
         external: external_of(linkage),

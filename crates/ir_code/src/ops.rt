@@ -2,7 +2,7 @@
 ghost use Rattle.std.specs.Prelude.{◌≡◌, ◌≤◌, ◌++◌, ◌^◌, ◌<◌, IfOk, length, map, replicate};
 ghost use Rattle.ir_code.specs.declared.op.Op.TheVariants as op;
 ghost use Rattle.ir_code.specs.Places.{exit_at};
-ghost use Rattle.ir_code.specs.Blocks.{joins_of, ending, resolved, op_of, ops_of};
+ghost use Rattle.ir_code.specs.Blocks.{joins_of, computed, ending, resolved, op_of, ops_of};
 
 use crate::addresses::address;
 use crate::calls::call;
@@ -60,6 +60,49 @@ fn ending(
     }
 }
 
+/// An instruction whose value needs those of its operands alone; `None` where it breaks a rule of modules, and for every other.
+fn computed(lookups: &Lookups, scope: &Scope, instruction: &Instruction) -> Option<Op>
+    ensures { result ≡ computed lookups.now scope.now instruction.now }
+{
+    let registers = &scope.registers;
+    match instruction {
+        Instruction::Binary {
+            to,
+            op,
+            flags,
+            of,
+            left,
+            right,
+        } => binary(lookups, registers, *to, *op, *flags, *of, *left, *right),
+        Instruction::Cast {
+            to,
+            op,
+            flags,
+            of,
+            value,
+            target,
+        } => cast(lookups, registers, *to, *op, *flags, *of, *value, *target),
+        Instruction::Freeze { to, of, value } => freeze(lookups, registers, *to, *of, *value),
+        Instruction::Compare {
+            to,
+            pred,
+            of,
+            left,
+            right,
+        } => compare(lookups, registers, *to, *pred, *of, *left, *right),
+        Instruction::Select {
+            to,
+            condition,
+            of,
+            on_true,
+            on_false,
+        } => select(
+            lookups, registers, *to, *condition, *of, *on_true, *on_false,
+        ),
+        _ => None,
+    }
+}
+
 /// An instruction that is no phi of those that its block begins with; `None` where it breaks a rule of modules.
 #[tactic(auto, unfolding(crate::specs::Blocks::resolved))]
 fn resolved(
@@ -75,39 +118,11 @@ fn resolved(
 {
     let registers = &scope.registers;
     match instruction {
-        Instruction::Binary {
-            to,
-            op,
-            flags,
-            of,
-            left,
-            right,
-        } => Ok(binary(lookups, registers, *to, *op, *flags, *of, *left, *right)),
-        Instruction::Cast {
-            to,
-            op,
-            flags,
-            of,
-            value,
-            target,
-        } => Ok(cast(lookups, registers, *to, *op, *flags, *of, *value, *target)),
-        Instruction::Freeze { to, of, value } => Ok(freeze(lookups, registers, *to, *of, *value)),
-        Instruction::Compare {
-            to,
-            pred,
-            of,
-            left,
-            right,
-        } => Ok(compare(lookups, registers, *to, *pred, *of, *left, *right)),
-        Instruction::Select {
-            to,
-            condition,
-            of,
-            on_true,
-            on_false,
-        } => Ok(select(
-            lookups, registers, *to, *condition, *of, *on_true, *on_false,
-        )),
+        Instruction::Binary { .. }
+        | Instruction::Cast { .. }
+        | Instruction::Freeze { .. }
+        | Instruction::Compare { .. }
+        | Instruction::Select { .. } => Ok(computed(lookups, scope, instruction)),
         Instruction::Phi { .. } => Ok(None),
         Instruction::Alloca { to, of, count } => Ok(alloca(lookups, registers, *to, *of, *count)),
         Instruction::Load { to, of, pointer } => Ok(load(lookups, registers, *to, *of, *pointer)),

@@ -1,5 +1,5 @@
 -- Types and constants in brackets, a step at a time.
-use Rattle.std.proofs.Common.{◌≡◌, ℕ, zero, suc, ◌+◌, ◌<◌, ◌≤◌, Bool, true, false, List, [], ◌∷◌, ◌++◌, drop, length, Option, Some, None, slice_get, get_or, append_assoc, add-one, refl, sym, ap, subst, ◌∙◌, arith}
+use Rattle.std.proofs.Common.{◌≡◌, ℕ, zero, suc, ◌+◌, ◌<◌, ◌≤◌, Bool, true, false, List, [], ◌∷◌, ◌++◌, drop, length, Some, slice_get, append_assoc, add-one, refl, sym, ap, ◌∙◌, arith}
 use Rattle.std.specs.Prelude.{nat_lt, codes, pos}
 use Rattle.std.proofs.lemmas.List.{append-nil, drop_all}
 use Rattle.std.proofs.lemmas.Bool.{lt-ltb}
@@ -7,11 +7,11 @@ use Rattle.ir_tree.specs.declared.nodes.TypeNode.TheVariants as node
 use Rattle.ir_tree.specs.declared.nodes.ConstantNode.TheVariants as constant
 use Rattle.ir_tree.specs.declared.nodes.Element.{Element}
 use Rattle.ir_tree.specs.Table.{Table}
-use Rattle.ir_tree.specs.Trees.{TypeV, ArrayV, StructV, ConstantV, TextC, ArrayC, StructC, AddressC}
+use Rattle.ir_tree.specs.Trees.{ArrayV, StructV, ConstantV, TextC, ArrayC, StructC, AddressC}
 use Rattle.ir_tree.specs.Naming.{type_at, types_by, elements_by}
 use Rattle.ir_printer.specs.declared.nested.Show.{Show}
 use Rattle.ir_printer.specs.declared.nested.Show.TheVariants as show
-use Rattle.ir_printer.specs.Pieces.{Piece, quoted, Blank, Word, Mark, Number, bytes_of, comma, led, within}
+use Rattle.ir_printer.specs.Pieces.{Piece, quoted, Blank, Word, Mark, Number, bytes_of, led, within}
 use Rattle.ir_printer.specs.Operands.{address_head, pointer_lead, opening, closing, type_pieces, types_pieces, constant_pieces, elements_pieces}
 use Rattle.ir_printer.specs.Nesting.{lead, constant_below, fields_rest, elements_rest, show_pieces, Writes}
 use Rattle.ir_printer.proofs.Spelled.{bytes_append}

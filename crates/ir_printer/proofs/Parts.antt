@@ -1,14 +1,12 @@
 -- The types and constants of numbers, from what stands in them.
-use Rattle.std.proofs.Common.{◌≡◌, ℕ, zero, suc, ◌+◌, ◌<◌, ◌≤◌, Bool, true, false, List, [], ◌∷◌, ◌++◌, take, length, Option, Some, None, slice_get, get_or, refl, sym, ap, subst, ◌∙◌, arith}
+use Rattle.std.proofs.Common.{◌≡◌, ℕ, zero, suc, ◌≤◌, Bool, true, false, List, [], ◌∷◌, ◌++◌, take, Some, None, slice_get, get_or, refl, ap, ◌∙◌, arith}
 use Rattle.std.specs.Prelude.{nat_lt, if◌then◌else◌}
 use Rattle.std.proofs.lemmas.List.{get_or-take, get_or_past, length-take}
-use Rattle.std.proofs.lemmas.Bool.{cases_Bool}
 use mathlib.Core.Path.{fun_ext}
 use borrow.Author.Tests.{ltb-true, ltb-false}
-use Rattle.ir_tree.specs.declared.nodes.TypeNode.{TypeNode}
 use Rattle.ir_tree.specs.declared.nodes.ConstantNode.{ConstantNode}
 use Rattle.ir_tree.specs.Table.{Table}
-use Rattle.ir_tree.specs.Trees.{TypeV, PtrV, ConstantV, NullC}
+use Rattle.ir_tree.specs.Trees.{PtrV, ConstantV, NullC}
 use Rattle.ir_tree.specs.Naming.{meanings, name_at, type_at, type_of_node, constant_at, constant_of_node}
 use Rattle.ir_tree.proofs.Showing.{meaning_from}
 use Rattle.ir_printer.specs.Nesting.{constant_below}

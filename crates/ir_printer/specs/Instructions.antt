@@ -17,7 +17,7 @@ use Rattle.ir_tree.specs.declared.instruction.Callee.TheVariants.{Function, Poin
 use Rattle.ir_tree.specs.declared.instruction.Instruction.{Instruction}
 use Rattle.ir_tree.specs.declared.instruction.Instruction.TheVariants as instruction
 use Rattle.ir_tree.specs.Trees.{TypeV, ConstantV}
-use Rattle.ir_printer.specs.Pieces.{Piece, Blank, LineEnd, Word, Mark, Dots, Global, Local, comma, led, separated, joined}
+use Rattle.ir_printer.specs.Pieces.{Piece, Blank, Word, Mark, Dots, Global, Local, comma, led, separated, joined}
 use Rattle.ir_printer.specs.Operands.{pointer_lead, type_pieces, constant_pieces, operand_pieces, argument_pieces}
 
 abbrev pub operation_word : BinOp → List ℕ

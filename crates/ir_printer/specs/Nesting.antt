@@ -1,15 +1,15 @@
 -- What is still to be written of nested types and constants.
-use Rattle.std.specs.Prelude.{◌≡◌, ◌+◌, ◌*◌, ◌≤◌, ℕ, Bool, true, false, nat_lt, if◌then◌else◌, List, [], ◌∷◌, ◌++◌, Option, Some, None, slice_get, length, drop, codes}
+use Rattle.std.specs.Prelude.{◌≡◌, ◌+◌, ◌*◌, ◌≤◌, ℕ, Bool, true, false, nat_lt, if◌then◌else◌, List, [], ◌∷◌, ◌++◌, Option, Some, slice_get, length, drop}
 use Rattle.ir_tree.specs.declared.nodes.TypeNode.{TypeNode}
 use Rattle.ir_tree.specs.declared.nodes.TypeNode.TheVariants as node
 use Rattle.ir_tree.specs.declared.nodes.ConstantNode.{ConstantNode}
 use Rattle.ir_tree.specs.declared.nodes.ConstantNode.TheVariants as constant
 use Rattle.ir_tree.specs.Table.{Table}
-use Rattle.ir_tree.specs.Trees.{TypeV, ConstantV, NullC}
+use Rattle.ir_tree.specs.Trees.{ConstantV, NullC}
 use Rattle.ir_tree.specs.Naming.{type_at, types_by, constant_at, elements_by}
 use Rattle.ir_printer.specs.declared.nested.Show.{Show}
 use Rattle.ir_printer.specs.declared.nested.Show.TheVariants as show
-use Rattle.ir_printer.specs.Pieces.{Piece, Blank, Word, Mark, bytes_of, comma, led, within}
+use Rattle.ir_printer.specs.Pieces.{Piece, Blank, Mark, bytes_of, comma, led, within}
 use Rattle.ir_printer.specs.Operands.{closing, pointer_lead, type_pieces, types_pieces, constant_pieces, elements_pieces}
 
 -- a constant that stands in the constant of a number, and so has a smaller one

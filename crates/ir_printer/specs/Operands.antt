@@ -1,5 +1,5 @@
 -- Types, constants and operands as pieces, after the LLVM Language Reference, "Type System" and "Constants".
-use Rattle.std.specs.Prelude.{ℕ, ℤ, pos, Bool, true, false, nat_eq, if◌then◌else◌, List, [], ◌∷◌, ◌++◌, codes, decimal}
+use Rattle.std.specs.Prelude.{pos, Bool, true, false, nat_eq, if◌then◌else◌, List, [], ◌∷◌, ◌++◌, codes, decimal}
 use Rattle.pv_base.specs.declared.name.Name.{Name}
 use Rattle.int_num.specs.Integer.{Integer, signed}
 use Rattle.ir_tree.specs.declared.instruction.Operand.{Operand}
@@ -7,7 +7,7 @@ use Rattle.ir_tree.specs.declared.instruction.Operand.TheVariants.{Register, Con
 use Rattle.ir_tree.specs.declared.instruction.Argument.{Argument}
 use Rattle.ir_tree.specs.Trees.{TypeV, IntV, PtrV, VoidV, ArrayV, StructV, NamedV, TypesV, NoneV, MoreV}
 use Rattle.ir_tree.specs.Trees.{ConstantV, IntegerC, NullC, ZeroC, TextC, ArrayC, StructC, NameC, AddressC, ElementsV, NoneC, MoreC}
-use Rattle.ir_printer.specs.Pieces.{Piece, Blank, Word, Mark, Global, Local, Number, Quote, comma, led, within}
+use Rattle.ir_printer.specs.Pieces.{Piece, Blank, Word, Mark, Global, Local, Number, Quote, led, within}
 
 -- `{` and `}`, and of a packed struct `<{` and `}>`
 abbrev pub opening : Bool → List Piece

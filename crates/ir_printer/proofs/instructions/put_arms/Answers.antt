@@ -1,5 +1,4 @@
-use Rattle.ir_tree.specs.Shown.{shown_argument, shown_arm}
-use Rattle.ir_printer.specs.Operands.{argument_pieces}
+use Rattle.ir_tree.specs.Shown.{shown_arm}
 use Rattle.ir_printer.specs.Instructions.{arm_pieces}
 use Rattle.ir_printer.proofs.Spelled.{separated_first}
 use Rattle.ir_printer.proofs.instructions.put_arms.Goals as goal

@@ -1,10 +1,7 @@
 use Rattle.std.proofs.Common.{◌≡◌, ◌++◌, map, drop}
-use Rattle.ir_tree.specs.Naming.{type_at}
-use Rattle.ir_tree.specs.Shown.{shown, shown_argument, shown_arm, shown_case, shown_param, shown_block, shown_named, shown_global, shown_function}
+use Rattle.ir_tree.specs.Shown.{shown_param}
 use Rattle.ir_printer.specs.Pieces.{bytes_of, led}
-use Rattle.ir_printer.specs.Operands.{argument_pieces}
-use Rattle.ir_printer.specs.Instructions.{arm_pieces, case_pieces}
-use Rattle.ir_printer.specs.Items.{param_pieces, instruction_line, block_pieces, named_pieces, global_pieces, function_pieces}
+use Rattle.ir_printer.specs.Items.{param_pieces}
 use Rattle.ir_printer.proofs.items.put_next_params.Given as goal
 
 abbrev pub invariant-loop-param : goal.invariant-loop-param

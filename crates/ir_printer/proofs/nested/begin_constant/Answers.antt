@@ -1,9 +1,8 @@
-use Rattle.std.proofs.Common.{◌∙◌, refl, sym, [], ◌∷◌, ◌++◌, slice_get}
+use Rattle.std.proofs.Common.{refl, [], ◌∷◌, ◌++◌, slice_get}
 use Rattle.std.specs.Prelude.{codes}
-use Rattle.std.proofs.lemmas.List.{append-nil}
 use Rattle.std.proofs.lemmas.Result.{on_ok_weaker}
 use Rattle.ir_tree.specs.Naming.{name_at, type_at}
-use Rattle.ir_printer.specs.Pieces.{Global, bytes_of, spelled}
+use Rattle.ir_printer.specs.Pieces.{Global, bytes_of}
 use Rattle.ir_printer.specs.Operands.{address_head, pointer_lead, type_pieces, constant_pieces, integer_piece}
 use Rattle.ir_printer.specs.Nesting.{constant_below, elements_rest}
 use Rattle.ir_printer.proofs.Stacks.{put_none, at_table}

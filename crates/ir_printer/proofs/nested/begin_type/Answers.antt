@@ -1,10 +1,9 @@
-use Rattle.std.proofs.Common.{refl, sym, [], ◌∷◌}
+use Rattle.std.proofs.Common.{refl, [], ◌∷◌}
 use Rattle.std.specs.Prelude.{codes}
-use Rattle.std.proofs.lemmas.List.{append-nil}
 use Rattle.std.proofs.lemmas.Result.{on_ok_weaker}
 use Rattle.ir_tree.specs.Trees.{ArrayV}
 use Rattle.ir_tree.specs.Naming.{name_at, type_at}
-use Rattle.ir_printer.specs.Pieces.{Local, Word, bytes_of, spelled}
+use Rattle.ir_printer.specs.Pieces.{Local, bytes_of}
 use Rattle.ir_printer.specs.Operands.{type_pieces}
 use Rattle.ir_printer.proofs.Stacks.{put_none, at_table}
 use Rattle.ir_printer.proofs.Bracketing.{struct_begun}

@@ -1,5 +1,5 @@
-use Rattle.std.proofs.Common.{refl, sym, ◌≤◌, ◌+◌, ◌++◌, ◌∷◌, length, slice_get, arith}
-use Rattle.std.specs.Prelude.{nat_lt, true, Bool, codes}
+use Rattle.std.proofs.Common.{refl, ◌≤◌, ◌+◌, ◌++◌, ◌∷◌, length, slice_get, arith}
+use Rattle.std.specs.Prelude.{nat_lt, true}
 use Rattle.ir_tree.specs.Naming.{type_at}
 use Rattle.ir_printer.specs.Pieces.{Blank}
 use Rattle.ir_printer.specs.Operands.{type_pieces, constant_pieces}

@@ -1,6 +1,5 @@
-use Rattle.ir_tree.specs.Shown.{shown_argument, shown_arm}
+use Rattle.ir_tree.specs.Shown.{shown_argument}
 use Rattle.ir_printer.specs.Operands.{argument_pieces}
-use Rattle.ir_printer.specs.Instructions.{arm_pieces}
 use Rattle.ir_printer.proofs.Spelled.{separated_first}
 use Rattle.ir_printer.proofs.operands.put_arguments.Goals as goal
 

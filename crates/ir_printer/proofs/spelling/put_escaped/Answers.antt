@@ -1,6 +1,5 @@
-use Rattle.std.proofs.Common.{◌≡◌, ℕ, List, ◌++◌, drop, append_assoc, sym, ap, ◌∙◌, arith}
-use Rattle.std.proofs.lemmas.List.{append-nil}
-use Rattle.ir_printer.specs.Pieces.{escaped_byte, escaped}
+use Rattle.std.proofs.Common.{◌++◌}
+use Rattle.ir_printer.specs.Pieces.{escaped}
 use Rattle.ir_printer.proofs.Spelled.{escaped_step, escaped_end}
 use Rattle.ir_printer.proofs.spelling.put_escaped.Goals as goal
 

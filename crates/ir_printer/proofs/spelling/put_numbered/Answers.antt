@@ -1,6 +1,3 @@
-use Rattle.std.proofs.Common.{◌≡◌, ℕ, List, ◌++◌, get_or, None}
-use Rattle.std.specs.Prelude.{OnOk}
-use Rattle.pv_base.specs.declared.name.Name.TheVariants.{Numbered}
 use Rattle.ir_printer.specs.Pieces.{name_text}
 use Rattle.ir_printer.proofs.Spelled.{name_past}
 use Rattle.ir_printer.proofs.spelling.put_numbered.Goals as goal
