@@ -1,5 +1,5 @@
 //! The outside: files that are read by name, and sinks that take bytes, each with a count of its faults.
-ghost use Rattle.std.specs.Prelude.{◌≡◌, ◌≤◌, ◌+◌, ℕ, Option, min};
+ghost use Rattle.std.specs.Prelude.{◌≡◌, ◌≤◌, ◌<◌, ◌+◌, ℕ, Option, length, min};
 ghost use Rattle.pv_base.specs.Outside.{Text, ReadEnds, PutEnds, HasRoom, Rose, last_count};
 
 use crate::bytes::Bytes;
@@ -43,8 +43,9 @@ pub trait Sink {
     /// How many bytes it has room for, where it tells that.
     ghost room: { Self → Option ℕ };
 
-    /// Appends all of the bytes, or a front of them and then it is a fault.
+    /// Appends all of the bytes, or a front of them and then it is a fault. There is something to append.
     fn put(&mut self, bytes: &[u8]) -> Result<(), SinkFault>
+        requires { 0 < length bytes.now }
         ensures room { room self.new ≡ room self.old }
         ensures later { faults self.old ≤ faults self.new }
         ensures ends { PutEnds (held self.old) (held self.new) (faults self.old) (faults self.new) bytes.now result };
