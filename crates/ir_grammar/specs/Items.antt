@@ -1,6 +1,7 @@
 -- The items of a module's text.
 use Rattle.std.specs.Prelude.{ℕ, ◌+◌, Bool, true, false, ◌||◌, nat_le, if◌then◌else◌, List, [], ◌∷◌, Option, Some, None, Result, Ok, Err, codes}
 use Rattle.pv_base.specs.declared.name.Name.{Name}
+use Rattle.pv_base.specs.Limits.{live_limit}
 use Rattle.ir_lex.specs.declared.token.TokenKind.{TokenKind}
 use Rattle.ir_lex.specs.declared.token.TokenKind.TheVariants as kind
 use Rattle.ir_lex.specs.declared.token.Cause.{Cause}
@@ -76,7 +77,7 @@ size_of known of = bytes_of (layout_with (named_layouts known) of)
 
 -- the globals of a module take at most so many bytes
 abbrev pub fits_globals : ℕ → Bool
-fits_globals size = nat_le size 4194304
+fits_globals size = nat_le size live_limit
 
 -- a type with a layout, with which so many bytes of globals are not too many
 unfoldable pub global_type_at : Known → ℕ → Reader TypeV

@@ -1,5 +1,6 @@
 -- What was read of a module, with one more item.
 use Rattle.std.proofs.Common.{◌≡◌, ℕ, ◌+◌, ◌<◌, ◌≤◌, Bool, true, false, cond, List, [], ◌∷◌, ◌++◌, length, All, refl}
+use Rattle.pv_base.specs.Limits.{live_limit}
 use Rattle.std.proofs.lemmas.List.{map-append}
 use Rattle.std.proofs.lemmas.List.Elements.{All-push}
 use Rattle.ir_tree.specs.declared.items.NamedType.{NamedType}
@@ -39,7 +40,7 @@ module _ (table : Table) (is : IsTable table) (s : SoFar) (within : SoFarWithin 
   pub type_within : (n : NamedType ℕ ℕ) → n.name < length table.names → SoFarWithin table (record s { types = with_number s.types n.name })
   type_within n lt = record { types = names_with table s.types n.name within.types lt; values = within.values; size = within.size }
 
-  pub global_within : (g : Global ℕ ℕ ℕ) (bytes : ℕ) → g.name < length table.names → s.size + bytes ≤ 4194304 → SoFarWithin table (record s { globals = s.globals ++ g ∷ []; values = with_number s.values g.name; size = s.size + bytes })
+  pub global_within : (g : Global ℕ ℕ ℕ) (bytes : ℕ) → g.name < length table.names → s.size + bytes ≤ live_limit → SoFarWithin table (record s { globals = s.globals ++ g ∷ []; values = with_number s.values g.name; size = s.size + bytes })
   global_within g bytes lt fits = record { types = within.types; values = names_with table s.values g.name within.values lt; size = fits }
 
   pub function_within : (f : Function ℕ ℕ ℕ) → f.name < length table.names → SoFarWithin table (record s { functions = s.functions ++ f ∷ []; values = with_number s.values f.name })

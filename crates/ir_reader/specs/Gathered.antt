@@ -1,5 +1,6 @@
 -- Items by number, and what was read of a module.
 use Rattle.std.specs.Prelude.{◌≡◌, ℕ, ◌+◌, ◌<◌, ◌≤◌, length, map, fold, if◌then◌else◌, List, [], Option, Some, None, Result, Ok, Err, ⊤, codes}
+use Rattle.pv_base.specs.Limits.{live_limit}
 use Rattle.ir_lex.specs.declared.token.Cause.TheVariants as causes
 use Rattle.ir_tree.specs.Table.{Table}
 use Rattle.ir_tree.specs.Naming.{name_at}
@@ -37,7 +38,7 @@ so_far_at table s = record {
 -- the numbers in an item are of the table, and a global fits behind those of so many bytes
 abbrev pub ItemWithin : Table → ℕ → Item → Type 0
 ItemWithin table size (item.NamedType t) = t.name < length table.names
-ItemWithin table size (item.Global g) = (g.global.name < length table.names) × (size + g.bytes ≤ 4194304)
+ItemWithin table size (item.Global g) = (g.global.name < length table.names) × (size + g.bytes ≤ live_limit)
 ItemWithin table size (item.Function f) = f.name < length table.names
 ItemWithin table size item.Passed = ⊤
 
@@ -45,7 +46,7 @@ ItemWithin table size item.Passed = ⊤
 pub record SoFarWithin (table : Table) (s : SoFar) : Type 0 where
   pub types : AreNames table s.types
   pub values : AreNames table s.values
-  pub size : s.size ≤ 4194304
+  pub size : s.size ≤ live_limit
 
 -- what was read before, and what is still read
 abbrev pub gathered : grammar.SoFar → Outcome (List grammar.Item) → Outcome grammar.SoFar

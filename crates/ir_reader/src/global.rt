@@ -1,6 +1,7 @@
 //! Named types and globals.
 
 ghost use Rattle.std.specs.Prelude.{◌≡◌, ◌<◌, ◌≤◌, ◌+◌, length, map, IfOk, OnOk, IfSome, ◌^◌};
+ghost use Rattle.pv_base.specs.Limits.{live_limit};
 ghost use Rattle.ir_tree.specs.Table.{Table};
 ghost use Rattle.ir_tree.specs.Naming.{Grows, name_at, type_at};
 ghost use Rattle.ir_tree.specs.Shown.{shown_named, shown_global};
@@ -33,6 +34,7 @@ use ir_tree::items::{Global, NamedType};
 use ir_tree::layout::Layout;
 use ir_tree::nodes::TypeId;
 use ir_tree::table::Names;
+use pv_base::limits::LIVE_LIMIT;
 use pv_base::want::Memory;
 use std::alloc::Global as Allocator;
 
@@ -147,11 +149,11 @@ fn bytes_of(layout: Option<Layout>) -> u64
 
 /// Whether so many bytes more are not too many.
 fn fits(size: u64, bytes: u64) -> bool
-    requires size { size ≤ 4194304 }
+    requires size { size ≤ live_limit }
     requires bytes { bytes < 2 ^ 63 }
     ensures { result ≡ spec.fits_globals (size + bytes) }
 {
-    size + bytes <= 4194304
+    size + bytes <= LIVE_LIMIT
 }
 
 /// Reads a type with a layout, with which the globals, which take so many bytes without it, are not too many.
@@ -163,10 +165,10 @@ pub fn global_type(
     size: u64,
 ) -> Result<Placed, ReadEnd>
     requires laid { AreLaid (layout_in known.now) names.old layouts.old }
-    requires size { size ≤ 4194304 }
+    requires size { size ≤ live_limit }
     ensures reads { (later : Table) → Grows names.new later → Reads (type_of later) cursor.new result (spec.global_type_at (known_of later known.now) size cursor.old) }
     ensures bytes { IfOk result (λ p. (later : Table) → Grows names.new later → p.bytes ≡ spec.size_of (known_of later known.now) (type_at later p.of)) }
-    ensures fits { IfOk result (λ p. size + p.bytes ≤ 4194304) }
+    ensures fits { IfOk result (λ p. size + p.bytes ≤ live_limit) }
     ensures within { IfOk result (λ p. p.of < length names.new.types) }
     ensures laid { AreLaid (layout_in known.now) names.new layouts.new }
     ensures grows { Grows names.old names.new }
@@ -204,10 +206,10 @@ pub fn read_global(
 ) -> Result<PlacedGlobal, ReadEnd>
     requires values { AreNames names.old values.now }
     requires laid { AreLaid (layout_in known.now) names.old layouts.old }
-    requires size { size ≤ 4194304 }
+    requires size { size ≤ live_limit }
     ensures reads { (later : Table) → Grows names.new later → Reads (global_of later) cursor.new result (spec.global_at (known_of later known.now) (map (name_at later) values.now) size cursor.old) }
     ensures bytes { IfOk result (λ g. (later : Table) → Grows names.new later → g.bytes ≡ spec.size_of (known_of later known.now) (type_at later g.global.of)) }
-    ensures fits { IfOk result (λ g. size + g.bytes ≤ 4194304) }
+    ensures fits { IfOk result (λ g. size + g.bytes ≤ live_limit) }
     ensures new { IfOk result (λ g. IsNew names.new values.now g.global.name) }
     ensures laid { OnOk result (AreLaid (layout_in known.now) names.new layouts.new) }
     ensures grows { Grows names.old names.new }

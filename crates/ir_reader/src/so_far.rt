@@ -1,6 +1,7 @@
 //! Items, and what was read of a module.
 
 ghost use Rattle.std.specs.Prelude.{◌≡◌, ◌<◌, ◌≤◌, ◌+◌, [], length, map, IfOk, OnOk};
+ghost use Rattle.pv_base.specs.Limits.{live_limit};
 ghost use Rattle.ir_tree.specs.Table.{Table};
 ghost use Rattle.ir_tree.specs.Naming.{Grows};
 ghost use Rattle.ir_tree.specs.Shown.{shown_named, shown_global, shown_function};
@@ -66,7 +67,7 @@ impl SoFar {
     fn add_global(&mut self, names: &Names, placed: PlacedGlobal) -> Result<(), Memory>
         requires so_far { SoFarWithin names.now self.old }
         requires name { placed.global.name < length names.now.names }
-        requires size { self.old.size + placed.bytes ≤ 4194304 }
+        requires size { self.old.size + placed.bytes ≤ live_limit }
         ensures adds { OnOk result ((later : Table) → Grows names.now later → so_far_at later self.new ≡ grammar.with_item (so_far_at later self.old) (grammar.GlobalItem (shown_global later placed.global) placed.bytes)) }
         ensures within { OnOk result (SoFarWithin names.now self.new) }
     {

@@ -3,6 +3,7 @@
 use Rattle.std.specs.Prelude.{◌≡◌, ◌<◌, ◌≤◌, ◌^◌, ℕ, Bool, true, false, not, ◌&&◌, nat_lt, nat_le, nat_eq, List, [], ◌∷◌, ◌++◌, map, length, is_some, sum_by, Option, Some, None}
 use Rattle.std.specs.List.{list_any, list_all, flat_map, filter_map, range_with_len}
 use Rattle.pv_base.specs.declared.name.Name.{Name}
+use Rattle.pv_base.specs.Limits.{live_limit}
 use Rattle.pv_base.specs.declared.name.Name.TheVariants.{Named, Numbered}
 use Rattle.ir_tree.specs.declared.instruction.Operand.TheVariants as operand
 use Rattle.ir_tree.specs.declared.instruction.Instruction.TheVariants as instruction
@@ -145,10 +146,6 @@ function_stands types f =
 
 -- ---- the whole
 
--- the most bytes that globals have together
-abbrev pub global_limit : ℕ
-global_limit = 4194304
-
 abbrev pub size_of : Option Layout → ℕ
 size_of None = 0
 size_of (Some l) = l.size
@@ -175,7 +172,7 @@ pub record Stands (v : ModuleV) : Type 0 where
   pub global_names : names_differ (global_names v) ≡ true
   pub layouts : list_all (λ g. has_layout v.types g.of) v.globals ≡ true
   pub initialisers : list_all (λ g. constant_stands v.types g.init) v.globals ≡ true
-  pub sizes : global_sizes v ≤ global_limit
+  pub sizes : global_sizes v ≤ live_limit
   pub globals : length v.globals < 2 ^ 32
   pub function_count : length v.functions < 2 ^ 32
   pub functions : list_all (function_stands v.types) v.functions ≡ true

@@ -5,6 +5,7 @@ pub mod bytes;
 pub mod external;
 pub mod host;
 pub mod in_memory;
+pub mod limits;
 pub mod list;
 pub mod name;
 pub mod outside;

@@ -7,6 +7,7 @@ use Rattle.std.proofs.lemmas.List.{map-append}
 use Rattle.std.proofs.lemmas.List.Folds.{list_any-append, list_all-append}
 use Rattle.std.proofs.lemmas.List.Sums.{sum_by_push}
 use Rattle.pv_base.specs.declared.name.Name.{Name}
+use Rattle.pv_base.specs.Limits.{live_limit}
 use Rattle.ir_lex.specs.declared.token.Cause.TheVariants as causes
 use Rattle.ir_tree.specs.declared.items.NamedType.{NamedType}
 use Rattle.ir_tree.specs.declared.layout.Layout.{Layout}
@@ -32,7 +33,7 @@ use Rattle.ir_grammar.specs.PassedItems.{to_string, attributes_at, metadata_at, 
 use Rattle.ir_grammar.specs.Items.{words_behind, before_global, global_words, bytes_of, fits_globals, global_type_at, global_at, declaration_at, definition_at, named_type_at, passing, type_item_at, global_item_at, declaration_item_at, definition_item_at, worded_item_at, marked_item_at, item_at, any_token, items_at}
 use Rattle.ir_grammar.specs.Items as items
 use Rattle.ir_grammar.specs.Modules.{Item, TypeItem, GlobalItem, FunctionItem, PassedItem, SoFar, nothing_so_far, with_item}
-use Rattle.ir_rules.specs.Reading.{all_differ, names_differ, has_layout, constant_stands, size_of, global_limit}
+use Rattle.ir_rules.specs.Reading.{all_differ, names_differ, has_layout, constant_stands, size_of}
 use Rattle.ir_rules.specs.Seen.{FunctionV, GlobalV}
 use Rattle.instr_laws.proofs.MemoryLaws.{memory_type_laws}
 use Rattle.read_laws.specs.Describing.{Describes}
@@ -53,10 +54,10 @@ module _ (known : Known) (types : List (NamedType Name TypeV)) (describes : Desc
   -- a type with a layout, with which so many bytes are not too many
   record Laid (size : ℕ) (x : TypeV × List TokenV) : Type 0 where
     laid_out : has_layout types x.0 ≡ true
-    fits : size + items.size_of known x.0 ≤ global_limit
+    fits : size + items.size_of known x.0 ≤ live_limit
 
   fitted : (size : ℕ) (t : TokenV) (of : TypeV × List TokenV) (b : Bool) → fits_globals (size + items.size_of known of.0) ≡ b → has_layout types of.0 ≡ true → Gives (Laid size) (cond b (Ok of) (wrong t causes.Layout))
-  fitted size t of true is laid = gives (Laid size) of (record { laid_out = laid; fits = leb-true (size + items.size_of known of.0) 4194304 is })
+  fitted size t of true is laid = gives (Laid size) of (record { laid_out = laid; fits = leb-true (size + items.size_of known of.0) live_limit is })
   fitted size t of false is laid = faulty (Laid size) _
 
   type_laid : (size : ℕ) (ts : List TokenV) → Gives (Laid size) (global_type_at known size ts)
@@ -70,7 +71,7 @@ module _ (known : Known) (types : List (NamedType Name TypeV)) (describes : Desc
   record GlobalIs (values : List Name) (size : ℕ) (g : GlobalV) : Type 0 where
     name : name_among g.name values ≡ false
     laid_out : has_layout types g.of ≡ true
-    fits : size + items.size_of known g.of ≤ global_limit
+    fits : size + items.size_of known g.of ≤ live_limit
     initialiser : constant_stands types g.init ≡ true
 
   abbrev GlobalGiven : List Name → ℕ → GlobalV × List TokenV → Type 0
@@ -160,7 +161,7 @@ module _ (known : Known) (types : List (NamedType Name TypeV)) (describes : Desc
     layouts : list_all (λ g. has_layout types g.of) gs ≡ true
     initialisers : list_all (λ g. constant_stands types g.init) gs ≡ true
     takes : bytes gs ≡ size
-    fits : size ≤ global_limit
+    fits : size ≤ live_limit
     functions : AllByRecursion (FunctionStands types) fs
 
   shuffle : (p q r : Bool) → ((p || q) || (r || false)) ≡ (p || (r || q))

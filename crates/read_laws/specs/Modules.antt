@@ -2,6 +2,7 @@
 use Rattle.std.specs.Prelude.{◌≡◌, ◌<◌, ◌≤◌, ◌^◌, nat_lt, true, fold, length, List, sum_by, Ok}
 use Rattle.std.specs.List.{list_all, AllByRecursion}
 use Rattle.pv_base.specs.declared.name.Name.{Name}
+use Rattle.pv_base.specs.Limits.{live_limit}
 use Rattle.ir_tree.specs.declared.items.NamedType.{NamedType}
 use Rattle.ir_tree.specs.Layouts.{layout_of}
 use Rattle.ir_tree.specs.Trees.{TypeV}
@@ -9,7 +10,7 @@ use Rattle.ir_text.specs.Tokens.{TokenV}
 use Rattle.ir_text.specs.Types.{Known}
 use Rattle.ir_grammar.specs.Items.{items_at}
 use Rattle.ir_grammar.specs.Modules.{Item, nothing_so_far, with_item}
-use Rattle.ir_rules.specs.Reading.{names_differ, has_layout, constant_stands, size_of, global_limit, global_names, counts_stand}
+use Rattle.ir_rules.specs.Reading.{names_differ, has_layout, constant_stands, size_of, global_names, counts_stand}
 use Rattle.ir_rules.specs.Seen.{ModuleV}
 use Rattle.read_laws.specs.Describing.{Describes}
 use Rattle.read_laws.specs.Functions.{most_defined, FunctionStands}
@@ -20,7 +21,7 @@ pub record ItemsStand (types : List (NamedType Name TypeV)) (m : ModuleV) : Type
   pub names : names_differ (global_names m) ≡ true
   pub layouts : list_all (λ g. has_layout types g.of) m.globals ≡ true
   pub initialisers : list_all (λ g. constant_stands types g.init) m.globals ≡ true
-  pub sizes : sum_by (λ g. size_of (layout_of types g.of)) m.globals ≤ global_limit
+  pub sizes : sum_by (λ g. size_of (layout_of types g.of)) m.globals ≤ live_limit
   pub functions : AllByRecursion (FunctionStands types) m.functions
 
 -- what is read of all items stands

@@ -1,5 +1,6 @@
 -- What reading keeps, by numbers and written out.
 use Rattle.std.proofs.Common.{◌≡◌, ℕ, ◌<◌, ◌≤◌, Bool, true, false, List, [], ◌∷◌, ◌++◌, map, length, refl, sym, ap, ◌∙◌, arith}
+use Rattle.pv_base.specs.Limits.{live_limit}
 use Rattle.std.specs.Prelude.{◌&&◌, ◌↔◌, nat_le, nat_lt, sum_by, IsTrue, Some, None}
 use Rattle.std.specs.List.{list_all}
 use Rattle.std.proofs.lemmas.Bool.{lt-ltb}
@@ -60,7 +61,7 @@ items_are m =
     rw (structs, named_types_names m.names m.types, all_names m) refl
 
 pub globals_are : (m : Items) → globals_stand m
-    ≡ (list_all (λ g. has_layout (types_of m) (type_at m.names g.of)) m.globals && nat_le (sum_by (λ g. size_of (layout_in m g.of)) m.globals) 4194304
+    ≡ (list_all (λ g. has_layout (types_of m) (type_at m.names g.of)) m.globals && nat_le (sum_by (λ g. size_of (layout_in m g.of)) m.globals) live_limit
     && nat_lt (length m.globals) 4294967296 && nat_lt (length m.functions) 4294967296)
 unfolding globals_stand
 globals_are m =
@@ -128,7 +129,7 @@ module _ (m : Items) where
     unfolding items_differ
     items = right_true (is_within m && table_stands m) (items_differ m) three
 
-    globals : (list_all (λ g. has_layout (seen m).types g.of) (seen m).globals && nat_le (global_sizes (seen m)) 4194304 && nat_lt (length (seen m).globals) 4294967296 && nat_lt (length (seen m).functions) 4294967296) ≡ true
+    globals : (list_all (λ g. has_layout (seen m).types g.of) (seen m).globals && nat_le (global_sizes (seen m)) live_limit && nat_lt (length (seen m).globals) 4294967296 && nat_lt (length (seen m).functions) 4294967296) ≡ true
     unfolding globals_stand
     globals = right_true (is_within m && table_stands m && items_differ m) (globals_stand m) four
 
@@ -162,7 +163,7 @@ module _ (m : Items) where
   unfolding module_stands table_stands items_differ globals_stand
   tests (w, r) =
       let v = w.stands in
-      rw (w.within, r.names, r.types, r.constants, v.structs, v.type_names, v.global_names, v.layouts, of_le (global_sizes (seen m)) 4194304 v.sizes, lt-ltb (length (seen m).globals) 4294967296 v.globals, lt-ltb (length (seen m).functions) 4294967296 v.function_count, v.functions) refl
+      rw (w.within, r.names, r.types, r.constants, v.structs, v.type_names, v.global_names, v.layouts, of_le (global_sizes (seen m)) live_limit v.sizes, lt-ltb (length (seen m).globals) 4294967296 v.globals, lt-ltb (length (seen m).functions) 4294967296 v.function_count, v.functions) refl
 
   pub stands_is : IsTable m.names → IsTrue (module_stands m) ↔ (IsWellFormed m × TableStands m)
   stands_is is = (λ e. (well_formed e is, rows e), tests)

@@ -1,11 +1,12 @@
 -- What reading keeps, as tests in five groups.
 use Rattle.std.specs.Prelude.{Bool, ◌&&◌, nat_lt, nat_le, length, map}
+use Rattle.pv_base.specs.Limits.{live_limit}
 use Rattle.std.specs.List.{list_all}
 use Rattle.ir_tree.specs.Naming.{type_at, constant_at}
 use Rattle.ir_tree.specs.Modules.{Items}
 use Rattle.ir_rules.specs.Seen.{seen}
 use Rattle.ir_rules.specs.Numbering.{is_within}
-use Rattle.ir_rules.specs.Reading.{name_stands, level_stands, address_stands, is_struct, names_differ, global_names, has_layout, global_sizes, global_limit, function_stands, numbers_below}
+use Rattle.ir_rules.specs.Reading.{name_stands, level_stands, address_stands, is_struct, names_differ, global_names, has_layout, global_sizes, function_stands, numbers_below}
 
 unfoldable pub table_stands : Items → Bool
 table_stands m =
@@ -17,7 +18,7 @@ items_differ m = list_all (λ t. is_struct t.of) (seen m).types && names_differ 
 
 unfoldable pub globals_stand : Items → Bool
 globals_stand m =
-    list_all (λ g. has_layout (seen m).types g.of) (seen m).globals && nat_le (global_sizes (seen m)) global_limit && nat_lt (length (seen m).globals) 4294967296
+    list_all (λ g. has_layout (seen m).types g.of) (seen m).globals && nat_le (global_sizes (seen m)) live_limit && nat_lt (length (seen m).globals) 4294967296
     && nat_lt (length (seen m).functions) 4294967296
 
 unfoldable pub module_stands : Items → Bool

@@ -1,6 +1,7 @@
 //! Whether a module is one that is read from text: that nothing in it breaks what reading keeps.
 ghost use Rattle.std.specs.Prelude.{◌≡◌, ◌&&◌, ◌++◌, ◌↔◌, nat_lt, nat_le, length, map, sum_by, IfOk, IsTrue};
 ghost use Rattle.std.specs.List.{list_all};
+ghost use Rattle.pv_base.specs.Limits.{live_limit};
 ghost use Rattle.ir_tree.specs.Naming.{name_at, type_at};
 ghost use Rattle.ir_tree.specs.Modules.{layout_in, types_of};
 ghost use Rattle.ir_tree.specs.Shown.{shown_function};
@@ -17,6 +18,7 @@ use ir_tree::items::{Function, Global as Variable, NamedType};
 use ir_tree::nodes::{NameId, TypeId};
 use ir_tree::table::Names;
 use ir_tree::whole::{Module, layout_at, layout_is_bounded};
+use pv_base::limits::LIVE_LIMIT;
 use pv_base::list::List;
 use pv_base::want::Memory;
 use std::alloc::Global;
@@ -104,9 +106,9 @@ fn size_of(tree: &Module, of: TypeId) -> u64
 
 /// Whether globals have at most so many bytes together.
 fn sizes_below(tree: &Module, globals: &[Variable]) -> bool
-    ensures { result ≡ nat_le (sum_by (λ g. size_of (layout_in tree.now g.of)) globals.now) 4194304 }
+    ensures { result ≡ nat_le (sum_by (λ g. size_of (layout_in tree.now g.of)) globals.now) live_limit }
 {
-    let mut left: u64 = 4194304;
+    let mut left: u64 = LIVE_LIMIT;
     for variable in globals {
         let size = size_of(tree, variable.of);
         if size > left {
