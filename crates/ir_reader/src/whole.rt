@@ -1,5 +1,5 @@
 //! Whole texts.
-ghost use Rattle.std.specs.Prelude.{◌≡◌, ◌<◌, ◌^◌, [], length, All, List, Ok, IfOk};
+ghost use Rattle.std.specs.Prelude.{◌≡◌, ◌<◌, ◌^◌, [], length, All, List, None, Ok, IfOk};
 ghost use Rattle.pv_base.specs.declared.name.Name.{Name};
 ghost use Rattle.ir_tree.specs.declared.items.NamedType.{NamedType};
 ghost use Rattle.ir_tree.specs.Table.{Table};
@@ -97,6 +97,19 @@ fn settle(
     }
 }
 
+/// The module of these items.
+fn module_in(alloc: Global, names: Names, named: TextTypes, read: SoFar) -> Result<Module, ReadEnd>
+    requires within { All (NamedWithin names) named.types }
+    ensures { IsWhole names named read None result }
+{
+    let SoFar {
+        globals,
+        functions,
+        ..
+    } = read;
+    Ok(Module::new(alloc, names, named.types, globals, functions)?)
+}
+
 /// The module of these items, unless there is a fault in the body of a definition.
 fn module_with(
     alloc: Global,
@@ -113,7 +126,7 @@ fn module_with(
     if let Some(fault) = body_fault(alloc, text, tokens, &named.only)? {
         return Err(ReadEnd::Bad(fault));
     }
-    Ok(Module::new(alloc, names, named.types, read.globals, read.functions)?)
+    module_in(alloc, names, named, read)
 }
 
 /// Reads the module of all items, among the named types of the whole text.
