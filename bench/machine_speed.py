@@ -174,6 +174,30 @@ done:
 }}
 """
 
+# A thousand calls of a function that has as many registers as there are turns / 100, nearly all in a block that is never entered.
+WIDE = """define i32 @wide(i32 %n) {{
+entry:
+  %z = icmp eq i32 %n, -1
+  br i1 %z, label %never, label %end
+never:
+{wide}  br label %end
+end:
+  ret i32 0
+}}
+define i32 @main() {{
+entry:
+  br label %head
+head:
+  %i = phi i32 [ 0, %entry ], [ %j, %head ]
+  %r = call i32 @wide(i32 %i)
+  %j = add i32 %i, 1
+  %c = icmp ult i32 %j, 1000
+  br i1 %c, label %head, label %done
+done:
+  ret i32 0
+}}
+"""
+
 # name, text
 LOOPS = [
     ("count", COUNT),
@@ -185,7 +209,12 @@ LOOPS = [
     ("freed in reverse", FREED.replace("STEP", "{back}")),
     ("freed at random", FREED.replace("STEP", "514229")),
     ("calls 1000 deep", CALLS),
+    ("calls of a wide one", WIDE),
 ]
+
+
+def wide(registers):
+    return "".join(f"  %x{k} = add i32 %n, {k}\n" for k in range(registers))
 
 
 def least(command):
@@ -212,7 +241,7 @@ def main():
             for factor in (1, 2, 4, 8, 16):
                 with open(module, "w") as file:
                     count = turns * factor
-                    file.write(text.format(turns=count, objects=count // 8, back=count // 8 - 1))
+                    file.write(text.format(turns=count, objects=count // 8, back=count // 8 - 1, wide=wide(count // 100)))
                 command = [PROGRAM, "run", module, empty, "--budget", "1000000000"]
                 ran = subprocess.run(command, stdout=subprocess.DEVNULL, stderr=subprocess.PIPE, text=True)
                 end = ran.stderr.split("\n")[0]
