@@ -18,7 +18,8 @@ use Rattle.mem_image.specs.declared.object.Byte.{Byte}
 use Rattle.mem_image.specs.declared.object.Byte.TheVariants.{Num, Ptr}
 use Rattle.mem_image.specs.declared.object.Kind.TheVariants as kind
 use Rattle.mem_image.specs.declared.object.Object.{Object}
-use Rattle.mem_image.specs.Picture.{Picture, live, live_limit, name_limit}
+use Rattle.pv_base.specs.Limits.{live_limit}
+use Rattle.mem_image.specs.Picture.{Picture, live, name_limit}
 
 abbrev pub zeros : ℕ → List Byte
 zeros n = replicate n (Num 0)

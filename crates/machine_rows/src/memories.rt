@@ -4,13 +4,14 @@ ghost use Rattle.std.specs.List.{All};
 ghost use Rattle.mem_image.specs.Picture.{PartFits};
 
 use mem_image::fault::{CheckFault, CheckKind, Fault, Kept, Trap};
-use mem_image::image::Image;
+use mem_image::image::{Image, NAME_LIMIT};
 use mem_image::laws;
 use mem_image::memory::Mem;
 use mem_image::object::{Byte, Kind, Object, Pointer};
 use mem_image::word::Word;
+use pv_base::limits::LIVE_LIMIT;
 use pv_base::list::List;
-use pv_base::place::{AllocSite, Site};
+use pv_base::place::{AllocSite, Place, Site};
 use pv_base::want::Memory;
 use seq_calls::show::{Arg, FormatEnd};
 use std::alloc::Global;
@@ -409,6 +410,83 @@ const ENDED: &[(Pointer, Option<u64>)] = &[
 
 const COPIED: &[(Pointer, Option<u64>)] = &[(Pointer::Obj { name: 5, offset: 0 }, Some(3))];
 
+/// The least name of a live object from that one on.
+fn name_from(memory: &Image, name: u32) -> Option<u32> {
+    match memory.first_from(name) {
+        Some(object) => Some(object.name),
+        None => None,
+    }
+}
+
+/// From each name on: the least name of a live object, and how many there are.
+const FROM: &[(u32, Option<u32>, usize)] = &[
+    (0, Some(0), 4),
+    (2, Some(2), 2),
+    (3, Some(3), 1),
+    (4, None, 0),
+];
+
+#[test]
+fn live_objects_are_counted(rt: HostRuntime) -> Result<(), Fail> {
+    let mut memory = sample(rt.alloc())?;
+    for (name, first, count) in FROM {
+        assert!(rt; name_from(&memory, *name) == *first, "from {name}");
+        assert!(rt; memory.count_from(*name) == *count, "from {name}");
+    }
+    assert!(rt; memory.live() == 24);
+    memory.release(AT, obj(2, 0))?;
+    assert!(rt; memory.live() == 16);
+    assert!(rt; name_from(&memory, 2) == Some(3));
+    Ok(())
+}
+
+/// Puts a byte where an access of one byte falls.
+fn lay_at(memory: &mut Image, at: Pointer, byte: u8) -> Result<(), Fault> {
+    let place = memory.access(at, 1)?;
+    memory.lay_byte(place, Byte::Num(byte));
+    Ok(())
+}
+
+#[test]
+fn bytes_are_laid_over_constants(rt: HostRuntime) -> Result<(), Fail> {
+    let mut memory = sample(rt.alloc())?;
+    assert!(rt; memory.access(obj(0, 3), 1) == Ok(Place { name: 0, offset: 3 }));
+    assert!(rt; memory.write_access(obj(1, 3), 1) == Ok(Place { name: 1, offset: 3 }));
+    assert!(rt; memory.write_access(obj(0, 3), 1) == Err(Trap::ConstWrite));
+    lay_at(&mut memory, obj(0, 1), 9)?;
+    assert!(rt;
+        holds(
+            &mut memory,
+            obj(0, 0),
+            [7, 9, 7, 7].map(Byte::Num).as_slice()
+        )?
+    );
+    Ok(())
+}
+
+#[test]
+fn names_are_passed_over(rt: HostRuntime) {
+    let mut memory = Image::new(rt.alloc());
+    for (name, next) in [(0, 0), (9, 9), (4, 9), (NAME_LIMIT, NAME_LIMIT)] {
+        assert!(rt; name <= NAME_LIMIT);
+        memory.pass_over(name);
+        assert!(rt; memory.next() == next, "{name}");
+    }
+    assert!(rt; LIVE_LIMIT == 4_194_304);
+}
+
+#[test]
+fn pointers_are_renamed(rt: HostRuntime) {
+    let function = Pointer::Fun { index: 2 };
+    for (old, new) in [
+        (obj(2, -3), obj(7, -3)),
+        (Pointer::Null, Pointer::Null),
+        (function, function),
+    ] {
+        assert!(rt; old.with_name(7) == new);
+    }
+}
+
 const CHECK: CheckFault = CheckFault {
     kind: CheckKind::Trap,
     kept: Kept::Word(Trap::Null),
@@ -440,4 +518,11 @@ fn the_laws_are_called() {
     laws::made_takes_next();
     laws::null_is_past_limit();
     laws::released_is_dead();
+    laws::laid_is_there();
+    laws::added_is_there();
+    laws::removed_is_gone();
+    laws::ended_is_gone();
+    laws::lookups_tell_all();
+    laws::shapes_tell_accesses();
+    laws::bytes_tell_reads();
 }

@@ -1,18 +1,22 @@
 -- What a map of objects by name says of the list of its values.
-use Rattle.std.proofs.Common.{◌≡◌, ℕ, ◌+◌, ◌<◌, ◌≤◌, ◌==◌, ◌-◌, ◌∙◌, IfSome, Bor, true, false, List, [], ◌∷◌, ◌++◌, length, Option, Some, None, arith, refl, sym, ap, subst, cond, if◌then◌else◌}
-use Rattle.std.specs.List.{All}
+use Rattle.std.proofs.Common.{◌≡◌, ℕ, suc, Bool, nat_le, ◌+◌, ◌<◌, ◌≤◌, ◌==◌, ◌-◌, ◌∙◌, IfSome, Bor, true, false, List, [], ◌∷◌, ◌++◌, length, Option, Some, None, arith, refl, sym, ap, subst, cond, if◌then◌else◌}
+use Rattle.std.proofs.lemmas.Bool.Decides.{nat_tests}
+use Rattle.std.specs.List.{All, filter}
 use Rattle.std.specs.Option.{option_copied}
 use Rattle.std.specs.Map.{lookup, set_value, remove_entry, values_of}
 use Rattle.std.specs.Ordering.{nat_cmp}
 use Rattle.std.specs.declared.cmp.Ordering.TheVariants.{Greater}
 use Rattle.std.specs.BTreeMap.{is_at, insert_entry}
+use Rattle.std.specs.BTreeMap.Range.{range_contains}
+use Rattle.std.specs.declared.ops.Bound.TheVariants.{Included, Unbounded}
 use Rattle.std.specs.Cmp.{unsigned_tied, nat_cmp_is}
 use Rattle.pv_base.specs.declared.place.Place.{Place}
 use Rattle.mem_image.specs.declared.object.Byte.{Byte}
 use Rattle.mem_image.specs.declared.object.Object.{Object}
-use Rattle.mem_image.specs.Picture.{PartFits, Rising, live, find, with_bytes, without, bytes_of, bytes_at, spliced, live_limit, name_limit}
+use Rattle.pv_base.specs.Limits.{live_limit}
+use Rattle.mem_image.specs.Picture.{PartFits, Rising, live, find, first_from, count_from, with_bytes, without, bytes_of, bytes_at, spliced, name_limit}
 use Rattle.mem_image.specs.Entries.{Keyed, IsKept}
-use Rattle.mem_image.proofs.Objects.{rising_without, rising_with_bytes, rising_pushed, live_pushed, live_without, live_with_bytes, parts_of, length_spliced, parts_spliced}
+use Rattle.mem_image.proofs.Objects.{rising_higher, rising_without, rising_with_bytes, rising_pushed, live_pushed, live_without, live_with_bytes, parts_of, length_spliced, parts_spliced}
 
 tested : (name : ℕ) (e : ℕ × Object) → e.0 ≡ e.1.name → is_at (nat_cmp name) e.0 ≡ (name == e.1.name)
 tested name e h = rw (← h) (unsigned_tied name e.0)
@@ -20,6 +24,48 @@ tested name e h = rw (← h) (unsigned_tied name e.0)
 pub lookup_is : (name : ℕ) (es : List (ℕ × Object)) → Keyed es → lookup (is_at (nat_cmp name)) es ≡ find name (values_of es)
 lookup_is name [] h = refl
 lookup_is name (e ∷ es) h = rw (tested name e h.0, lookup_is name es h.1) refl
+
+-- whether a map counts an entry to a range that begins at a name
+abbrev pub from_name : ℕ → ℕ × Object → Bool
+from_name name e = range_contains nat_cmp (Included name) Unbounded e.0
+
+from_at : (name n : ℕ) → range_contains nat_cmp (Included name) Unbounded n ≡ nat_le name n
+from_at name n = grind (arith, nat_tests)
+
+from_is : (name : ℕ) (e : ℕ × Object) → e.0 ≡ e.1.name → from_name name e ≡ nat_le name e.1.name
+from_is name e h = from_at name e.0 ∙ ap (nat_le name) h
+
+abbrev pub first_value : List (ℕ × Object) → Option Object
+first_value [] = None
+first_value (e ∷ es) = Some e.1
+
+pub first_in : (name : ℕ) (es : List (ℕ × Object)) → Keyed es → first_from name (values_of es) ≡ first_value (filter (from_name name) es)
+first_in name [] h = refl
+first_in name (e ∷ es) h = rw (from_is name e h.0, first_in name es h.1) elim (nat_le name e.1.name) as (λ b. (if b then Some e.1 else first_value (filter (from_name name) es)) ≡ first_value (cond b (e ∷ filter (from_name name) es) (filter (from_name name) es))) [
+  | true ↦ refl
+  | false ↦ refl
+]
+
+-- the object that a walk of such a range gives first
+pub first_of : (name : ℕ) (es all rest : List (ℕ × Object)) (e : ℕ × Object) → Keyed es → all ≡ filter (from_name name) es → all ≡ e ∷ rest → first_from name (values_of es) ≡ Some e.1
+first_of name es all rest e k f h = first_in name es k ∙ ap first_value (sym f ∙ h)
+
+pub first_none : (name : ℕ) (es all : List (ℕ × Object)) → Keyed es → all ≡ filter (from_name name) es → all ≡ [] → first_from name (values_of es) ≡ None
+first_none name es all k f h = first_in name es k ∙ ap first_value (sym f ∙ h)
+
+pub first_parts : (name : ℕ) (os : List Object) (low n : ℕ) (o : Object) → Rising low os n → first_from name os ≡ Some o → All PartFits o.bytes
+first_parts name [] low n o h e = absurd (cc)
+first_parts name (x ∷ os) low n o h e = (elim (nat_le name x.name) as (λ b. (if b then Some x else first_from name os) ≡ Some o → All PartFits o.bytes) [
+  | true ↦ λ q. subst (λ f. All PartFits (bytes_of f)) q h.2
+  | false ↦ λ q. first_parts name os (x.name + 1) n o h.3 q
+]) e
+
+pub count_in : (name : ℕ) (es : List (ℕ × Object)) → Keyed es → count_from name (values_of es) ≡ length (filter (from_name name) es)
+count_in name [] h = refl
+count_in name (e ∷ es) h = rw (from_is name e h.0, count_in name es h.1) elim (nat_le name e.1.name) as (λ b. (if b then suc (length (filter (from_name name) es)) else length (filter (from_name name) es)) ≡ length (cond b (e ∷ filter (from_name name) es) (filter (from_name name) es))) [
+  | true ↦ refl
+  | false ↦ refl
+]
 
 pub values_removed : (name : ℕ) (es : List (ℕ × Object)) → Keyed es → values_of (remove_entry (is_at (nat_cmp name)) es) ≡ without name (values_of es)
 values_removed name [] h = refl
@@ -126,3 +172,7 @@ length_taken name es o n sum k e =
 
 pub kept_taken : (name : ℕ) (es : List (ℕ × Object)) (o : Object) (n sum : ℕ) → IsKept es n sum → Some o ≡ lookup (is_at (nat_cmp name)) es → IsKept (remove_entry (is_at (nat_cmp name)) es) n (sum - length o.bytes)
 kept_taken name es o n sum k e = subst (λ f. IsKept (remove_entry (is_at (nat_cmp name)) es) n (sum - length (bytes_of f))) (found name es o k.keys e) (kept_removed name es n sum k)
+
+-- the map where the next name is a later one
+pub kept_passed : (es : List (ℕ × Object)) (n sum m : ℕ) → IsKept es n sum → n ≤ m → m ≤ name_limit → IsKept es m sum
+kept_passed es n sum m k le names = record { keys = k.keys; picture = record { rising = rising_higher (values_of es) 0 n m k.picture.rising le; live = k.picture.live; names = names }; live = k.live }

@@ -1,5 +1,5 @@
 -- The laws of the calls, from their definitions.
-use Rattle.std.proofs.Common.{◌≡◌, ◌≢◌, ℕ, suc, zero, ◌+◌, ◌<◌, ◌≤◌, ◌==◌, ◌||◌, ℤ, pos, negsuc, nat_le, nat_lt, Bool, true, false, List, [], ◌∷◌, length, slice_range, replicate, Option, Some, None, Result, Ok, Err, arith, refl, sym, ◌∙◌, ap, subst, if◌then◌else◌, inl, inr}
+use Rattle.std.proofs.Common.{◌≡◌, ◌≢◌, ℕ, suc, zero, max, ◌+◌, ◌<◌, ◌≤◌, ◌==◌, ◌||◌, ℤ, pos, negsuc, nat_le, nat_lt, Bool, true, false, List, [], ◌∷◌, length, slice_range, replicate, Option, Some, None, Result, Ok, Err, arith, refl, sym, ◌∙◌, ap, subst, if◌then◌else◌, inl, inr}
 use Rattle.std.proofs.lemmas.Grind.{common_steps}
 use Rattle.std.proofs.lemmas.Bool.Decides.{nat_tests, eqb_tells}
 use Rattle.std.proofs.lemmas.List.{length-replicate}
@@ -17,12 +17,13 @@ use Rattle.mem_image.specs.declared.object.Kind.TheVariants.{Global, Stack, Heap
 use Rattle.mem_image.specs.declared.object.Object.{Object}
 use Rattle.mem_image.specs.declared.fault.Trap.{Trap}
 use Rattle.mem_image.specs.declared.fault.Trap.TheVariants.{Names}
-use Rattle.mem_image.specs.Picture.{Picture, PartFits, Rising, IsPicture, live, live_limit, name_limit, find, with_bytes, without, bytes_of, bytes_at, is_fixed, reached, access, unfixed, write_access, bytes_from, read, read_at, spliced, lay, laid, write, fill, copied, copy, apart, over, added, fresh, past, make, remove, freed, released, release, end_frame}
+use Rattle.pv_base.specs.Limits.{live_limit}
+use Rattle.mem_image.specs.Picture.{Picture, PartFits, Rising, IsPicture, live, name_limit, find, with_bytes, without, bytes_of, bytes_at, is_fixed, reached, access, unfixed, write_access, bytes_from, read, read_at, spliced, lay, laid, write, fill, copied, copy, apart, over, added, fresh, past, make, remove, freed, released, release, end_frame, passed_over}
 use Rattle.mem_image.specs.Calls.{Call, Reply, does, done_reply, made_reply, read_reply, ReadWord, WriteWord, CopyRange, Fill, Make, Release, EndFrame, Bytes, Made, Done}
 use Rattle.mem_image.specs.Laws.{IsCall}
-use Rattle.mem_image.proofs.Objects.{rising_without, rising_with_bytes, rising_pushed, parts_at, live_pushed, live_without, live_with_bytes, length_spliced, parts_spliced}
+use Rattle.mem_image.proofs.Objects.{rising_higher, rising_without, rising_with_bytes, rising_pushed, parts_at, live_pushed, live_without, live_with_bytes, length_spliced, parts_spliced}
 
-if_ok : {A E : Type 0} (b : Bool) (x y : A) (t : E) → (if b then Ok x else Err t) ≡ Ok y → (b ≡ true) × (x ≡ y)
+pub if_ok : {A E : Type 0} (b : Bool) (x y : A) (t : E) → (if b then Ok x else Err t) ≡ Ok y → (b ≡ true) × (x ≡ y)
 if_ok true x y t e = (refl, cc)
 if_ok false x y t e = absurd (cc)
 
@@ -30,7 +31,7 @@ unless_ok : {A E : Type 0} (b : Bool) (x y : A) (t : E) → (if b then Err t els
 unless_ok true x y t e = absurd (cc)
 unless_ok false x y t e = cc
 
-reached_inside : (name : ℕ) (offset : ℤ) (len : ℕ) (f : Option Object) (place : Place) → reached name offset len f ≡ Ok place → (place.name ≡ name) × (place.offset + len ≤ length (bytes_of f))
+pub reached_inside : (name : ℕ) (offset : ℤ) (len : ℕ) (f : Option Object) (place : Place) → reached name offset len f ≡ Ok place → (place.name ≡ name) × (place.offset + len ≤ length (bytes_of f))
 reached_inside name offset len None place e = absurd (cc)
 reached_inside name (negsuc o) len (Some x) place e = absurd (cc)
 reached_inside name (pos o) len (Some x) place e =
@@ -54,7 +55,7 @@ write_inside : (m : Picture) (p : Pointer) (len : ℕ) (place : Place) → write
 write_inside m p len place e = access_inside m p len place (unfixed_is m (access m p len) place e)
 
 -- the memory with other bytes at a place
-lay_keeps : (m : Picture) (place : Place) (bytes : List Byte) → IsPicture m → place.offset + length bytes ≤ length (bytes_at place.name m.objects) → All PartFits bytes → IsPicture (lay m place bytes)
+pub lay_keeps : (m : Picture) (place : Place) (bytes : List Byte) → IsPicture m → place.offset + length bytes ≤ length (bytes_at place.name m.objects) → All PartFits bytes → IsPicture (lay m place bytes)
 lay_keeps m place bytes k le parts =
     let whole = parts_at place.name m.objects 0 m.next k.rising in
     let len = length_spliced (bytes_at place.name m.objects) bytes place.offset le in
@@ -68,23 +69,26 @@ laid_keeps : (m n : Picture) (bytes : List Byte) (r : Result Place Trap) → IsP
 laid_keeps m n bytes (Ok place) k parts inside e = let same : lay m place bytes ≡ n = cc in subst IsPicture same (lay_keeps m place bytes k (inside place refl) parts)
 laid_keeps m n bytes (Err t) k parts inside e = absurd (cc)
 
-remove_keeps : (m : Picture) (name : ℕ) → IsPicture m → IsPicture (remove m name)
+pub remove_keeps : (m : Picture) (name : ℕ) → IsPicture m → IsPicture (remove m name)
 remove_keeps m name k = record {
   rising = rising_without name m.objects 0 m.next k.rising;
   live = omega (arith, live_without name m.objects, k.live);
   names = k.names;
 }
 
-all_keep : (names : List ℕ) (m : Picture) → IsPicture m → IsPicture (end_frame m names)
+pub all_keep : (names : List ℕ) (m : Picture) → IsPicture m → IsPicture (end_frame m names)
 all_keep [] m k = k
 all_keep (name ∷ names) m k = all_keep names (remove m name) (remove_keeps m name k)
 
-added_keeps : (m : Picture) (site : AllocSite) (kind : Kind) (fixed : Bool) (bytes : List Byte) → IsPicture m → live m.objects + length bytes ≤ live_limit → m.next < name_limit → All PartFits bytes → IsPicture (added m site kind fixed bytes)
+pub added_keeps : (m : Picture) (site : AllocSite) (kind : Kind) (fixed : Bool) (bytes : List Byte) → IsPicture m → live m.objects + length bytes ≤ live_limit → m.next < name_limit → All PartFits bytes → IsPicture (added m site kind fixed bytes)
 added_keeps m site kind fixed bytes k room names parts = record {
   rising = rising_pushed m.objects 0 m.next (record { name = m.next; site = site; kind = kind; fixed = fixed; bytes = bytes }) k.rising (omega arith) refl parts;
   live = omega (arith, live_pushed m.objects (record { name = m.next; site = site; kind = kind; fixed = fixed; bytes = bytes }), room);
   names = omega (arith, names);
 }
+
+pub passed_keeps : (m : Picture) (next : ℕ) → IsPicture m → next ≤ name_limit → IsPicture (passed_over m next)
+passed_keeps m next k le = record { rising = rising_higher m.objects 0 m.next (max m.next next) k.rising (omega arith); live = k.live; names = omega (arith, le, k.names) }
 
 abbrev state : Picture → Result (Reply × Picture) Trap → Picture
 state m (Ok p) = p.1
@@ -187,21 +191,21 @@ find_same name bytes (x ∷ os) o e = elim (eqb_tells name x.name) [
   | inr h ↦ rw (h.0, h.0) (find_same name bytes os o (rw h.0 at e))
 ]
 
-find_above : (name : ℕ) (os : List Object) (low n : ℕ) → Rising low os n → name < low → find name os ≡ None
+pub find_above : (name : ℕ) (os : List Object) (low n : ℕ) → Rising low os n → name < low → find name os ≡ None
 find_above name [] low n h lt = refl
 find_above name (o ∷ os) low n h lt = elim (eqb_tells name o.name) [
   | inl q ↦ absurd (omega (arith, q.1, lt, h.0))
   | inr q ↦ rw q.0 (find_above name os (o.name + 1) n h.3 (omega (arith, lt, h.0)))
 ]
 
-find_removed : (name : ℕ) (os : List Object) (low n : ℕ) → Rising low os n → find name (without name os) ≡ None
+pub find_removed : (name : ℕ) (os : List Object) (low n : ℕ) → Rising low os n → find name (without name os) ≡ None
 find_removed name [] low n h = refl
 find_removed name (o ∷ os) low n h = elim (eqb_tells name o.name) [
   | inl q ↦ rw q.0 (find_above name os (o.name + 1) n h.3 (omega (arith, q.1)))
   | inr q ↦ rw (q.0, q.0) (find_removed name os (o.name + 1) n h.3)
 ]
 
-find_kept : (name other : ℕ) (os : List Object) → other ≢ name → find other (without name os) ≡ find other os
+pub find_kept : (name other : ℕ) (os : List Object) → other ≢ name → find other (without name os) ≡ find other os
 find_kept name other [] ne = refl
 find_kept name other (o ∷ os) ne = elim (eqb_tells name o.name) [
   | inl h ↦ rw h.0 (grind (arith, nat_tests, h.1, ne))

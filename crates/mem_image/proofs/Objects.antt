@@ -12,6 +12,10 @@ pub rising_lower : (os : List Object) (a b n : ℕ) → Rising a os n → b ≤ 
 rising_lower [] a b n h le = tt
 rising_lower (o ∷ os) a b n h le = (omega (arith, h.0), h.1, h.2, h.3)
 
+pub rising_higher : (os : List Object) (low n m : ℕ) → Rising low os n → n ≤ m → Rising low os m
+rising_higher [] low n m h le = tt
+rising_higher (o ∷ os) low n m h le = (h.0, omega (arith, h.1, le), h.2, rising_higher os (o.name + 1) n m h.3 le)
+
 pub rising_without : (name : ℕ) (os : List Object) (low n : ℕ) → Rising low os n → Rising low (without name os) n
 rising_without name [] low n h = tt
 rising_without name (o ∷ os) low n h = elim (name == o.name) as (λ b. Rising low (if b then os else o ∷ without name os) n) [

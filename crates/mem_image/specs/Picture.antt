@@ -1,8 +1,9 @@
 -- A memory as a value: the live objects by rising name, and the next name. What reads, writes, copies, fills, requests
 -- and releases give, with their traps in order.
-use Rattle.std.specs.Prelude.{ℕ, zero, suc, ◌+◌, ◌<◌, ◌≤◌, ◌^◌, ◌==◌, ◌||◌, nat_le, nat_lt, if◌then◌else◌, ℤ, pos, negsuc, ◌++◌, List, [], ◌∷◌, length, take, drop, slice_range, replicate, Option, None, Some, Result, Ok, Err, Bool, true, false}
+use Rattle.std.specs.Prelude.{ℕ, zero, suc, ◌+◌, ◌<◌, ◌≤◌, ◌^◌, ◌==◌, ◌||◌, nat_le, nat_lt, if◌then◌else◌, ℤ, pos, negsuc, ◌++◌, List, [], ◌∷◌, length, take, drop, slice_range, replicate, max, Option, None, Some, Result, Ok, Err, Bool, true, false}
 use Rattle.std.specs.List.{All}
 use Rattle.std.specs.Option.{option_map}
+use Rattle.pv_base.specs.Limits.{live_limit}
 use Rattle.pv_base.specs.declared.place.AllocSite.{AllocSite}
 use Rattle.pv_base.specs.declared.place.Place.{Place}
 use Rattle.mem_image.specs.declared.object.Pointer.{Pointer}
@@ -18,10 +19,6 @@ use Rattle.mem_image.specs.declared.fault.Trap.TheVariants.{Null as NullTrap, De
 pub record Picture : Type 0 where
   pub objects : List Object
   pub next : ℕ
-
--- no more bytes are live at once
-abbrev pub live_limit : ℕ
-live_limit = 4194304
 
 -- every name is below
 abbrev pub name_limit : ℕ
@@ -62,6 +59,16 @@ pub record IsPicture (m : Picture) : Type 0 where
 abbrev pub find : ℕ → List Object → Option Object
 find name [] = None
 find name (o ∷ os) = if name == o.name then Some o else find name os
+
+-- the live object of the least name from that one on, since names rise
+abbrev pub first_from : ℕ → List Object → Option Object
+first_from name [] = None
+first_from name (o ∷ os) = if nat_le name o.name then Some o else first_from name os
+
+-- how many objects have a name from that one on
+abbrev pub count_from : ℕ → List Object → ℕ
+count_from name [] = 0
+count_from name (o ∷ os) = if nat_le name o.name then suc (count_from name os) else count_from name os
 
 -- the objects with other bytes in that of a name
 abbrev pub with_bytes : ℕ → List Byte → List Object → List Object
@@ -206,6 +213,10 @@ release m (Fun index) = Err Free
 -- the memory after a frame ended, whose own objects have these names
 abbrev pub end_frame : Picture → List ℕ → Picture
 end_frame m names = record m { objects = without_all names m.objects }
+
+-- the memory after the names below `next` were passed over
+abbrev pub passed_over : Picture → ℕ → Picture
+passed_over m next = record m { next = max m.next next }
 
 -- the size of the live object that a pointer points to, wherever in it
 abbrev pub size_of : Picture → Pointer → Option ℕ

@@ -1,8 +1,9 @@
 //! The plain memory.
-ghost use Rattle.std.specs.Prelude.{◌≡◌, ◌+◌, ◌<◌, ◌≤◌, ℕ, length, IfOk, IfErr, IfSome, OnOk, OnErr, Result, [], Some, Ok, Err, replicate, ◌^◌};
+ghost use Rattle.std.specs.Prelude.{◌≡◌, ◌+◌, ◌<◌, ◌≤◌, ℕ, length, IfOk, IfErr, IfSome, OnOk, OnErr, Result, [], ◌∷◌, Some, Ok, Err, replicate, ◌^◌};
 ghost use Rattle.std.specs.List.{All};
 ghost use Rattle.std.specs.Option.{option_copied};
-ghost use Rattle.mem_image.specs.Picture.{PartFits, IsPicture, find, bytes_at, access, write_access, bytes_from, lay, read, write, fill, apart, over, added, add, remove, release, end_frame, live, live_limit, name_limit, size_of};
+ghost use Rattle.pv_base.specs.Limits.{live_limit};
+ghost use Rattle.mem_image.specs.Picture.{PartFits, IsPicture, find, first_from, count_from, bytes_at, access, write_access, bytes_from, lay, read, write, fill, apart, over, added, add, remove, release, end_frame, passed_over, live, name_limit, size_of};
 ghost use Rattle.mem_image.specs.Calls.{Fits, ImageAnswers, NoCheck, does, done_reply, done, replied, Done};
 ghost use Rattle.mem_image.specs.declared.object.Byte.TheVariants.{Num};
 
@@ -10,6 +11,7 @@ use crate::fault::{Fault, Trap};
 use crate::memory::Mem;
 use crate::object::{Byte, Kind, Object, Pointer};
 use crate::word::Word;
+use pv_base::limits::LIVE_LIMIT;
 use pv_base::list::List;
 use pv_base::place::{AllocSite, Place, Site};
 use pv_base::want::Memory;
@@ -17,11 +19,8 @@ use std::alloc::Global;
 use std::collections::BTreeMap;
 use std::marker::Model;
 
-/// No more bytes are live at once.
-const LIVE_LIMIT: u64 = 4_194_304;
-
-/// Names are below this.
-const NAME_LIMIT: u32 = 2_147_483_648;
+/// Each name is below this.
+pub const NAME_LIMIT: u32 = 2_147_483_648;
 
 /// The live objects by name, the next name, and how many bytes are live.
 pub struct Image {
@@ -90,6 +89,14 @@ impl Image {
         self.next
     }
 
+    /// How many bytes are live.
+    pub fn live(&self) -> u64
+        ensures bytes { result ≡ live self.now.objects }
+        ensures limit { result ≤ live_limit }
+    {
+        self.live
+    }
+
     /// The live object of that name.
     pub fn find(&self, name: u32) -> Option<&Object>
         ensures object { option_copied result ≡ find name self.now.objects }
@@ -98,8 +105,26 @@ impl Image {
         self.objects.get(&name)
     }
 
-    /// Where an access of so many bytes falls.
-    fn access(&self, pointer: Pointer, len: u64) -> Result<Place, Trap>
+    /// The live object of the least name from that one on. It takes time logarithmic in the number of objects.
+    pub fn first_from(&self, name: u32) -> Option<&Object>
+        ensures object { option_copied result ≡ first_from name self.now.objects }
+        ensures parts { IfSome result (λ o. All PartFits o.now.bytes) }
+    {
+        match self.objects.range(name..).next() {
+            Some((_, object)) => Some(object),
+            None => None,
+        }
+    }
+
+    /// How many live objects have a name from that one on. It takes time linear in that number.
+    pub fn count_from(&self, name: u32) -> usize
+        ensures { result ≡ count_from name self.now.objects }
+    {
+        self.objects.range(name..).count()
+    }
+
+    /// Where an access of so many bytes falls, or the trap that it meets: null, range on a function, dead, range.
+    pub fn access(&self, pointer: Pointer, len: u64) -> Result<Place, Trap>
         ensures place { result ≡ access self.now pointer len }
         ensures inside { IfOk result (λ p. p.offset + len ≤ length (bytes_at p.name self.now.objects)) }
     {
@@ -123,8 +148,8 @@ impl Image {
         }
     }
 
-    /// Where a write of so many bytes falls.
-    fn write_access(&self, to: Pointer, len: u64) -> Result<Place, Trap>
+    /// Where a write of so many bytes falls. After the traps of every access it tests whether the object is a constant.
+    pub fn write_access(&self, to: Pointer, len: u64) -> Result<Place, Trap>
         ensures place { result ≡ write_access self.now to len }
         ensures inside { IfOk result (λ p. p.offset + len ≤ length (bytes_at p.name self.now.objects)) }
     {
@@ -159,6 +184,24 @@ impl Image {
         if let Some(object) = self.objects.get_mut(&place.name) {
             object.bytes.write(place.offset as usize, bytes);
         }
+    }
+
+    /// Puts one byte at a place of a live object. It does not ask whether the object is a constant: this is how bytes that
+    /// were written elsewhere are committed.
+    pub fn lay_byte(&mut self, place: Place, byte: Byte)
+        requires inside { place.offset < length (bytes_at place.name self.old.objects) }
+        requires part { PartFits byte }
+        ensures { self.new ≡ lay self.old place (byte ∷ []) }
+    {
+        self.lay(place, &[byte]);
+    }
+
+    /// Passes over the names below that one: the next object gets it, or a later one where the memory is beyond it.
+    pub fn pass_over(&mut self, next: u32)
+        requires { next ≤ name_limit }
+        ensures { self.new ≡ passed_over self.old next }
+    {
+        self.next = self.next.max(next);
     }
 
     /// Puts a number in place of so many bytes from a place on.

@@ -1,5 +1,5 @@
 //! Laws of the calls of a memory, each the contract of a function that does nothing.
-ghost use Rattle.mem_image.specs.Laws.{CallsKeepPictures, ReadsGiveAll, WritesReadBack, WritesLeaveOthers, CopiesAreWrites, FillsAreWrites, MadeTakesNext, NullIsPastLimit, ReleasedIsDead};
+ghost use Rattle.mem_image.specs.Laws.{CallsKeepPictures, ReadsGiveAll, WritesReadBack, WritesLeaveOthers, CopiesAreWrites, FillsAreWrites, MadeTakesNext, NullIsPastLimit, ReleasedIsDead, LaidIsThere, AddedIsThere, RemovedIsGone, EndedIsGone, LookupsTellAll, ShapesTellAccesses, BytesTellReads};
 
 /// Each call keeps what holds of every memory.
 pub fn calls_keep_pictures()
@@ -44,4 +44,39 @@ pub fn null_is_past_limit()
 /// An object that was released is dead, and no other is.
 pub fn released_is_dead()
     ensures { ReleasedIsDead }
+{}
+
+/// Bytes that are laid at a place are there, and nothing else changes.
+pub fn laid_is_there()
+    ensures { LaidIsThere }
+{}
+
+/// An object that was added is there, and all others are as before.
+pub fn added_is_there()
+    ensures { AddedIsThere }
+{}
+
+/// An object that was removed is gone, and all others are as before.
+pub fn removed_is_gone()
+    ensures { RemovedIsGone }
+{}
+
+/// The objects of a frame that ended are gone, and all others are as before.
+pub fn ended_is_gone()
+    ensures { EndedIsGone }
+{}
+
+/// Two memories with the same next name, the same shapes and the same bytes are equal.
+pub fn lookups_tell_all()
+    ensures { LookupsTellAll }
+{}
+
+/// Where an access falls, and the size of an object, depend on its shape alone.
+pub fn shapes_tell_accesses()
+    ensures { ShapesTellAccesses }
+{}
+
+/// What a read gives depends on the shape of the object and on the bytes that it covers.
+pub fn bytes_tell_reads()
+    ensures { BytesTellReads }
 {}

@@ -6,4 +6,5 @@ pub mod image;
 pub mod laws;
 pub mod memory;
 pub mod object;
+pub mod shared;
 pub mod word;

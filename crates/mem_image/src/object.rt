@@ -1,5 +1,6 @@
 //! Pointers, bytes and objects. A byte is symbolic, so a pointer that is stored keeps what it points to.
 ghost use Rattle.std.specs.Prelude.{◌≡◌, IfOk};
+ghost use Rattle.mem_image.specs.Pointers.{with_name};
 
 use pv_base::list::List;
 use pv_base::place::AllocSite;
@@ -13,6 +14,18 @@ pub enum Pointer {
     Null,
     Obj { name: u32, offset: i64 },
     Fun { index: u32 },
+}
+
+impl Pointer {
+    /// The pointer to the same offset of the object of another name. Null and functions stay.
+    pub fn with_name(self, name: u32) -> Pointer
+        ensures { result ≡ with_name name self }
+    {
+        match self {
+            Pointer::Obj { name: _, offset } => Pointer::Obj { name, offset },
+            _ => self,
+        }
+    }
 }
 
 /// A byte of memory: not set, a number, or one of the eight bytes of a pointer, counted from 0.

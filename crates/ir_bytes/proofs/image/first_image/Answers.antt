@@ -2,7 +2,8 @@ use Rattle.std.proofs.Common.{get_or, false}
 use Rattle.std.proofs.lemmas.List.Elements.{All-from_recursion}
 use Rattle.ir_tree.specs.declared.items.Global.{Global as Variable}
 use Rattle.ir_tree.specs.Naming.{type_at, constant_at}
-use Rattle.mem_image.specs.Picture.{PartFits, live_limit}
+use Rattle.pv_base.specs.Limits.{live_limit}
+use Rattle.mem_image.specs.Picture.{PartFits}
 use Rattle.ir_bytes.specs.Initial.{bytes_at}
 use Rattle.ir_bytes.proofs.Globals.{bytes_parts, next_picture, room}
 use Rattle.ir_bytes.proofs.image.first_image.Goals as goal
