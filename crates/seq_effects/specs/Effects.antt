@@ -32,12 +32,6 @@ StopsAt e (Trap t) = MayStop e
 StopsAt e (Check f) = ⊥
 StopsAt e Memory = MayWant e
 
--- it is no want of memory
-abbrev pub IsStop : Fault → Type 0
-IsStop (Trap t) = Unit {0}
-IsStop (Check f) = Unit {0}
-IsStop Memory = ⊥
-
 -- an effect of an instruction without calls
 abbrev pub lifted : Result Effect TrapWord → Result Effect Fault
 lifted (Ok e) = Ok e

@@ -25,6 +25,7 @@ use Rattle.std.proofs.lemmas.Bool.{ltb-true}
 use Rattle.std.specs.Prelude.{MatchOption, IfSome, IfErr, if◌then◌else◌}
 use Rattle.std.proofs.lemmas.List.{take-append-le, length-take-le, take_all}
 use Rattle.std.proofs.lemmas.Bool.Decides.{nat_tests}
+use Rattle.std.proofs.Math.Seq.{set-append_seam}
 use Rattle.seq_effects.specs.Flow.{may_stand, Enters, IsResult, receives}
 use Rattle.seq_machine.specs.Acts.{blocks_of, types_of, ops_of, phis_of, function_at, block_at, op_at, top, with_top, bare, next, put, put_if, put_result, result_register, resumed, resumed_top, without_top, entered, keep, on_top, control_of, acted_of, Stands}
 use Rattle.seq_machine.specs.Frames.{CodeOk, FrameOf, HasMore, FramesOf, Awaits, Calls, result_of, HoldsResult}
@@ -191,6 +192,16 @@ top_some frames lt = go (top frames) refl
 
 pub put_back : (frames taken_out : List Frame) (f f' : Frame) → top frames ≡ Some f → ((g : Frame) → with_top taken_out g ≡ with_top frames g) → f' ≡ f → with_top taken_out f' ≡ frames
 put_back frames taken_out f f' t h e = h f' ∙ ap (with_top frames) e ∙ set_same frames (length frames - 1) f t
+
+-- the place at the end gets the name, and a register holds it
+pub kept_name : (f : Frame) (wide after : List ℕ) (count to name : ℕ) → count ≡ length f.own → wide ≡ f.own ++ 0 ∷ [] → after ≡ slice_set wide count name → put (record f { own = after }) to (Pointer (Obj name (pos 0))) ≡ keep f to name
+kept_name f wide after count to name n w is =
+    let own : after ≡ f.own ++ name ∷ [] = is ∙ rw (n, w) (set-append_seam f.own 0 [] name) in
+    ap (λ own. put (record f { own = own }) to (Pointer (Obj name (pos 0)))) own
+
+pub put_back_err : {A : Type 0} (frames taken_out after : List Frame) (f f' : Frame) (r : Result A Fault) → top frames ≡ Some f → ((g : Frame) → with_top taken_out g ≡ with_top frames g) → after ≡ with_top taken_out f' → OnErr r (f' ≡ f) → OnErr r (after ≡ frames)
+put_back_err frames taken_out after f f' (Ok a) t h is e = tt
+put_back_err frames taken_out after f f' (Err fault) t h is e = is ∙ put_back frames taken_out f f' t h e
 
 pub if_there : (f : Frame) (types : List Scalar) (to : Option ℕ) (v : Value) → AreOf types f.registers → HoldsIf types to v → IfSome to (λ r. r < length f.registers)
 if_there f types None v h holds = tt

@@ -4,3 +4,4 @@ pub mod Owns
 pub mod FrameLists
 pub mod Kept
 pub mod Steps
+pub mod Slotted

@@ -1,6 +1,6 @@
 -- A step, from its parts.
-use Rattle.std.proofs.Common.{◌≡◌, ℕ, zero, suc, add-one, arith, ◌+◌, ◌<◌, List, Option, Some, None, Result, Ok, Err, true, false, Bool, slice_get, not, refl, sym, ◌∙◌, ap, subst, length, OnErr}
-use Rattle.std.specs.Prelude.{IfOk, IfErr, nat_lt, ◌||◌}
+use Rattle.std.proofs.Common.{◌≡◌, ℕ, zero, suc, add-one, arith, ◌+◌, ◌<◌, ◌≤◌, List, Option, Some, None, Result, Ok, Err, true, false, Bool, slice_get, not, refl, sym, ◌∙◌, ap, subst, length, OnErr}
+use Rattle.std.specs.Prelude.{nat_lt, ◌||◌}
 use Rattle.std.proofs.lemmas.Bool.{ltb-true}
 use Rattle.ir_code.specs.declared.code.BlockCode.{BlockCode}
 use Rattle.mem_image.specs.declared.fault.Trap.TheVariants.{Unreachable}
@@ -14,22 +14,20 @@ use Rattle.ir_code.specs.declared.code.Code.{Code}
 use Rattle.mem_image.specs.declared.fault.Trap.{Trap as TrapWord}
 use Rattle.mem_image.specs.declared.fault.Fault.{Fault}
 use Rattle.mem_image.specs.declared.fault.Fault.TheVariants.{Trap, Check, Memory}
-use Rattle.mem_image.specs.Picture.{Picture, IsPicture}
+use Rattle.mem_image.specs.Picture.{Picture}
 use Rattle.mem_image.specs.Calls.{Call, Reply, does, Fits, ImageAnswers}
 use Rattle.mem_image.specs.declared.fault.CheckFault.{CheckFault}
 use Rattle.seq_effects.specs.declared.state.Frame.{Frame}
 use Rattle.seq_machine.specs.declared.state.State.{State}
 use Rattle.seq_effects.specs.declared.state.Effect.{Effect}
 use Rattle.seq_effects.specs.declared.state.Effect.TheVariants as effect
-use Rattle.seq_effects.specs.Script.{Script, Stops, Follows, Tells, tell, chain, sent}
+use Rattle.seq_effects.specs.Script.{Script, Stops, Follows, Tells, tell, chain, sent, outcome}
 use Rattle.seq_effects.specs.Values.{Sets}
 use Rattle.seq_machine.specs.Acts.{Control, Acted, acted, acted_of, top, function_at, op_at, block_at}
-use Rattle.seq_effects.specs.Effects.{IsStop}
-use Rattle.seq_machine.specs.Frames.{HasMore, EffectOf, FramesOf}
-use Rattle.seq_machine.specs.Owned.{OwnOf}
+use Rattle.seq_machine.specs.Frames.{HasMore, EffectOf}
 use Rattle.seq_machine.specs.Meaning.{Here, meaning, is_inner}
 use Rattle.seq_effects.specs.Effects.{EffectFor}
-use Rattle.seq_machine.specs.Step.{here, script_in, site_at, site_of, script, has_next, finish, step, stands, shown, settled, counted, StepsTo, StateOf, control, steps_from}
+use Rattle.seq_machine.specs.Step.{here, script_in, site_at, site_of, script, has_next, finish, step, stands, shown, settled, counted, StepsTo, IsAhead, control, steps_from}
 use Rattle.seq_machine.specs.declared.state.Step.TheVariants.{Next, Ended, Failed, Trap as Trapped}
 use Rattle.seq_machine.specs.declared.state.End.TheVariants.{Ended as RunEnded, Trapped as RunTrapped}
 use Rattle.seq_effects.proofs.Follow.{follows_chain, follows_cut, follows_outcome, no_check}
@@ -132,16 +130,24 @@ after image s frames place output done n = record { frames = frames; memory = im
 pub step_steps : {M : Type 0} (image : M → Picture) (R : M → Call → Result Reply Fault → M → Type 0) (sound : (m n : M) (call : Call) (answer : Result Reply Fault) → R m call answer n → Fits (does (image m) call) (image m) answer (image n)) (code : Code) (input : Text) (s : State M) (frames : List Frame) (place : ℕ) (output : Text) (done : Result (Option Integer) Fault) (n : M)
     → Follows image R (script code input (control s)) s.memory (sent (acted_of frames place output) done) n
     → OnErr done ((frames ≡ s.frames) × (place ≡ s.input_place) × (output ≡ s.output))
-    → IfErr done (λ fault. IsStop fault → image n ≡ image s.memory)
+    → OnErr done (image n ≡ image s.memory)
     → StepsTo code input (stands image s) (settled (site_of code (top s.frames)) done) (after image s frames place output done n)
 step_steps image R sound code input s frames place output (Ok None) n h same i =
     ap (finish code (stands image s)) {y = (Ok (acted_of frames place output None), image n)} (follows_outcome {A = Acted} image R sound (script code input (control s)) s.memory (Ok (acted_of frames place output None)) n h)
 step_steps image R sound code input s frames place output (Ok (Some v)) n h same i =
     ap (finish code (stands image s)) {y = (Ok (acted_of frames place output (Some v)), image n)} (follows_outcome {A = Acted} image R sound (script code input (control s)) s.memory (Ok (acted_of frames place output (Some v))) n h)
 step_steps image R sound code input s frames place output (Err (Trap u)) n h same i =
-    rw (same.0, same.1, same.2, i tt) (ap (finish code (stands image s)) {y = (Err u, image n)} (follows_outcome {A = Acted} image R sound (script code input (control s)) s.memory (Err (Trap u)) n h))
-step_steps image R sound code input s frames place output (Err (Check u)) n h same i = (rw (same.0, same.1, same.2, i tt) refl, refl)
+    rw (same.0, same.1, same.2, i) (ap (finish code (stands image s)) {y = (Err u, image n)} (follows_outcome {A = Acted} image R sound (script code input (control s)) s.memory (Err (Trap u)) n h))
+step_steps image R sound code input s frames place output (Err (Check u)) n h same i = (rw (same.0, same.1, same.2, i) refl, refl)
 step_steps image R sound code input s frames place output (Err Memory) n h same i = rw (same.0, same.1, same.2) refl
+
+-- want of memory leaves what the state stands for
+pub step_unmoved : {M : Type 0} (image : M → Picture) (s : State M) (site : Site) (frames : List Frame) (place : ℕ) (output : Text) (done : Result (Option Integer) Fault) (n : M) → OnErr done ((frames ≡ s.frames) × (place ≡ s.input_place) × (output ≡ s.output)) → OnErr done (image n ≡ image s.memory) → OnErr (settled site done) (after image s frames place output done n ≡ stands image s)
+step_unmoved image s site frames place output (Ok None) n same i = tt
+step_unmoved image s site frames place output (Ok (Some v)) n same i = tt
+step_unmoved image s site frames place output (Err (Trap t)) n same i = tt
+step_unmoved image s site frames place output (Err (Check f)) n same i = tt
+step_unmoved image s site frames place output (Err Memory) n same i = rw (same.0, same.1, same.2, i) refl
 
 pub site_is : (code : Code) (frames : List Frame) (f : Frame) (g : FunctionCode) (b : BlockCode) → top frames ≡ Some f → slice_get code.functions f.function ≡ Some g → slice_get g.blocks f.block ≡ Some b → record { function = f.function; place = b.first + f.place } ≡ site_of code (top frames)
 site_is code frames f g b t is in_it = rw (t, is, in_it) refl
@@ -156,6 +162,26 @@ run_ended code input s s' (suc n) v lt e = rw (e, steps_from) refl
 
 pub run_next : (code : Code) (input : Text) (s s' : State Picture) (n m : ℕ) → n ≡ m + 1 → step code input s ≡ (Next, s') → steps_from code input s n ≡ steps_from code input s' m
 run_next code input s s' n m same e = rw (same, add-one, e, steps_from) refl
+
+pub next_counts : (code : Code) (input : Text) (s t : State Picture) → step code input s ≡ (Next, t) → t.steps ≡ s.steps + 1
+next_counts code input s t e = go (outcome (script code input (control s)) s.memory) e
+  where
+    go : (x : Result Acted TrapWord × Picture) → finish code s x ≡ (Next, t) → t.steps ≡ s.steps + 1
+    go (Ok a, m) e = sym (ap (λ p. p.1.steps) e)
+    go (Err u, m) e = sym (ap (λ p. p.1.steps) e)
+
+-- a run goes on where its first steps led
+pub led_on : (code : Code) (input : Text) (first s s' : State Picture) (n : ℕ) → step code input s ≡ (Next, s') → ((k : ℕ) → steps_from code input first (n + k) ≡ steps_from code input s k) → (k : ℕ) → steps_from code input first (n + 1 + k) ≡ steps_from code input s' k
+led_on code input first s s' n e led k =
+    let sum : n + 1 + k ≡ n + (k + 1) = omega arith in
+    ap (steps_from code input first) sum ∙ led (k + 1) ∙ run_next code input s s' (k + 1) k refl e
+
+-- a fault leaves the state after the steps that led there
+pub ahead_of : {A E : Type 0} (r : Result A E) (code : Code) (input : Text) (first s s' : State Picture) (i n : ℕ) → i ≤ n → ((k : ℕ) → steps_from code input first (i + k) ≡ steps_from code input s k) → s' ≡ s → OnErr r (IsAhead code input first n s')
+ahead_of (Ok a) code input first s s' i n le led same = tt
+ahead_of (Err e) code input first s s' i n le led same =
+    let sum : i ≡ i + 0 = omega arith in
+    rw same (record { count = i; within = le; reached = ap (steps_from code input first) sum ∙ led 0 })
 
 -- an image fails no check
 pub failed_never : (code : Code) (input : Text) (s s' : State Picture) (f : CheckFault) (site : Site) → Follows (λ m. m) (λ before call answer after. ImageAnswers call answer × Fits (does before call) before answer after) (script code input (control s)) s.memory (shown s' (Ok (Failed f site))) s'.memory → ⊥

@@ -67,6 +67,12 @@ put f to v = record f { place = f.place + 1; registers = slice_set f.registers t
 abbrev pub keep : Frame → ℕ → ℕ → Frame
 keep f to name = record f { place = f.place + 1; registers = slice_set f.registers to (Some (Pointer (Obj name (pos 0)))); own = f.own ++ name ∷ [] }
 
+-- the frame after it made a stack object, which it keeps or is given
+abbrev pub slotted : Frame → Effect → Frame
+slotted f (Keep to name) = keep f to name
+slotted f (Give to v) = put f to v
+slotted f _ = f
+
 abbrev pub put_if : Frame → Option ℕ → Value → Frame
 put_if f None v = next f
 put_if f (Some to) v = put f to v

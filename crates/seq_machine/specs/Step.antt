@@ -1,5 +1,5 @@
 -- One step of the sequential machine, and its runs.
-use Rattle.std.specs.Prelude.{ℕ, zero, suc, ◌+◌, ◌≡◌, ◌||◌, not, nat_lt, length, Option, None, Some, Result, Ok, Err, Bool, if◌then◌else◌}
+use Rattle.std.specs.Prelude.{ℕ, zero, suc, ◌+◌, ◌≤◌, ◌≡◌, ◌||◌, not, nat_lt, length, Option, None, Some, Result, Ok, Err, Bool, if◌then◌else◌}
 use Rattle.int_num.specs.Integer.{Integer}
 use Rattle.pv_base.specs.Outside.{Text}
 use Rattle.pv_base.specs.declared.place.Site.{Site}
@@ -127,6 +127,12 @@ goes_on (Failed f site) s rest = (Spent, s)
 abbrev pub steps_from : Code → Text → State Picture → ℕ → End × State Picture
 steps_from code input s zero = (Spent, s)
 steps_from code input s (suc n) = goes_on (step code input s).0 (step code input s).1 (steps_from code input (step code input s).1 n)
+
+-- the state after at most so many steps, none of which ended the run or trapped
+pub record IsAhead (code : Code) (input : Text) (s : State Picture) (n : ℕ) (t : State Picture) : Type 0 where
+  pub count : ℕ
+  pub within : count ≤ n
+  pub reached : steps_from code input s count ≡ (Spent, t)
 
 -- ---- a state of the module
 

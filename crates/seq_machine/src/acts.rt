@@ -2,9 +2,10 @@
 ghost use Rattle.std.specs.Prelude.{◌≡◌, ◌+◌, ◌-◌, ◌<◌, ◌≤◌, ◌^◌, ◌++◌, ◌∷◌, nat_lt, if◌then◌else◌, ℕ, true, length, slice_get, slice_set, IfOk, IfErr, IfSome, OnErr, OnOk, Ok, Err, Some, None, []};
 ghost use Rattle.mem_image.specs.declared.fault.Fault.TheVariants.{Memory as NoMemory};
 ghost use Rattle.mem_image.specs.declared.fault.Trap.TheVariants.{Depth as DepthTrap, Output as OutputTrap};
-ghost use Rattle.seq_effects.specs.Script.{Tells, sent, ends};
-ghost use Rattle.seq_effects.specs.Values.{AreOf, Holds, then_};
-ghost use Rattle.seq_machine.specs.Acts.{top, with_top, next, put, keep, put_if, move_value, move_values, set_moves, arrived, taken, types_of, function_at, MovesHold, Stands, blocks_of, phis_of, entered, exit_number, result_register, op_at, back, bare_top, resumed_top, without_top, put_result, acted, control_of, acted_of, frame_limit, output_limit};
+ghost use Rattle.seq_effects.specs.Script.{Follows, Tells, sent, ends};
+ghost use Rattle.seq_effects.specs.Accesses.{alloca};
+ghost use Rattle.seq_effects.specs.Values.{AreOf, Holds, SetsOwn, then_};
+ghost use Rattle.seq_machine.specs.Acts.{slotted, top, with_top, next, put, keep, put_if, move_value, move_values, set_moves, arrived, taken, types_of, function_at, MovesHold, Stands, blocks_of, phis_of, entered, exit_number, result_register, op_at, back, bare_top, resumed_top, without_top, put_result, acted, control_of, acted_of, frame_limit, output_limit};
 ghost use Rattle.seq_machine.specs.Frames.{CodeOk, FrameOf, FramesOf, HasMore, HoldsResult, EffectOf, result_of};
 ghost use Rattle.seq_effects.specs.Flow.{IsResult};
 ghost use Rattle.seq_effects.specs.Effects.{StopsAt};
@@ -13,9 +14,12 @@ use int_num::int::Int;
 use ir_code::code::{Code, Edge, FunctionCode, Move};
 use ir_code::op::{Op, Scalar};
 use mem_image::fault::{Fault, Trap};
+use mem_image::memory::Mem;
 use mem_image::object::Pointer;
 use pv_base::bytes::Bytes;
 use pv_base::list::List;
+use pv_base::place::Site;
+use seq_effects::accesses::alloca;
 use seq_effects::flow::may_stand;
 use seq_effects::state::{Effect, Frame, Value};
 use seq_effects::values::may_hold;
@@ -64,6 +68,16 @@ fn next(frames: &mut List<Frame>)
     put_top(frames, frame);
 }
 
+/// A register of the frame is set, and it goes to the next instruction.
+fn give(frame: &mut Frame, to: u32, value: Value)
+    requires place { frame.old.place + 1 < 2 ^ 32 }
+    requires to { to < length frame.old.registers }
+    ensures { frame.new ≡ put frame.old to value }
+{
+    frame.registers.set(to as usize, Some(value));
+    frame.place += 1;
+}
+
 /// Sets a register of the top frame, which goes to the next instruction.
 fn put(frames: &mut List<Frame>, to: u32, value: Value)
     requires filled { 0 < length frames.old }
@@ -72,8 +86,7 @@ fn put(frames: &mut List<Frame>, to: u32, value: Value)
     ensures { (f : _) → top frames.old ≡ Some f → frames.new ≡ with_top frames.old (put f to value) }
 {
     let mut frame = take_top(frames);
-    frame.registers.set(to as usize, Some(value));
-    frame.place += 1;
+    give(&mut frame, to, value);
     put_top(frames, frame);
 }
 
@@ -378,12 +391,88 @@ fn keep(frames: &mut List<Frame>, to: u32, name: u32) -> Result<Option<Int>, Fau
         }
     }
     let pointer = Pointer::Obj { name, offset: 0 };
-    frame
-        .registers
-        .set(to as usize, Some(Value::Pointer(pointer)));
-    frame.place += 1;
+    give(&mut frame, to, Value::Pointer(pointer));
     put_top(frames, frame);
     Ok(None)
+}
+
+/// Makes a stack object of the frame. The place of its name is taken before the memory is asked.
+fn fill_slot<M: Mem>(
+    types: &List<Scalar>,
+    frame: &mut Frame,
+    memory: &mut M,
+    at: Site,
+    to: u32,
+    size: u64,
+) -> Result<Effect, Fault>
+    requires place { frame.old.place + 1 < 2 ^ 32 }
+    requires registers { AreOf types.now frame.old.registers }
+    requires ready { M.ready memory.old }
+    ensures ready { M.ready memory.new }
+    ensures follows { Follows M.image M.relation (alloca types.now at to size) memory.old result memory.new }
+    ensures image { OnErr result (M.image memory.new ≡ M.image memory.old) }
+    ensures sets { IfOk result (SetsOwn types.now) }
+    ensures slotted { IfOk result (λ e. frame.new ≡ slotted frame.old e) }
+    ensures err { OnErr result (frame.new ≡ frame.old) }
+{
+    let count = frame.own.len();
+    match frame.own.push(0) {
+        Ok(()) => {}
+        Err(_) => return Err(Fault::Memory),
+    }
+    let done = alloca(types, memory, at, to, size);
+    match &done {
+        Ok(Effect::Keep { to, name }) => {
+            frame.own.set(count, *name);
+            let pointer = Pointer::Obj {
+                name: *name,
+                offset: 0,
+            };
+            give(frame, *to, Value::Pointer(pointer));
+        }
+        Ok(Effect::Give { to, value }) => {
+            frame.own.truncate(count);
+            give(frame, *to, *value);
+        }
+        _ => frame.own.truncate(count),
+    }
+    done
+}
+
+/// Makes a stack object of the top frame, and does the effect. A fault changes nothing.
+pub fn make_slot<M: Mem>(
+    types: &List<Scalar>,
+    frames: &mut List<Frame>,
+    memory: &mut M,
+    at: Site,
+    to: u32,
+    size: u64,
+) -> Result<Effect, Fault>
+    requires filled { 0 < length frames.old }
+    requires place { (f : _) → top frames.old ≡ Some f → f.place + 1 < 2 ^ 32 }
+    requires registers { (f : _) → top frames.old ≡ Some f → AreOf types.now f.registers }
+    requires ready { M.ready memory.old }
+    ensures ready { M.ready memory.new }
+    ensures follows { Follows M.image M.relation (alloca types.now at to size) memory.old result memory.new }
+    ensures image { OnErr result (M.image memory.new ≡ M.image memory.old) }
+    ensures sets { IfOk result (SetsOwn types.now) }
+    ensures slotted { IfOk result (λ e. (f : _) → top frames.old ≡ Some f → frames.new ≡ with_top frames.old (slotted f e)) }
+    ensures err { OnErr result (frames.new ≡ frames.old) }
+{
+    let mut frame = take_top(frames);
+    let done = fill_slot(types, &mut frame, memory, at, to, size);
+    put_top(frames, frame);
+    done
+}
+
+/// The run goes on after a stack object was made.
+pub fn slot_made(done: Result<Effect, Fault>) -> Result<Option<Int>, Fault>
+    ensures { result ≡ sent (λ _. None) done }
+{
+    match done {
+        Ok(_) => Ok(None),
+        Err(fault) => Err(fault),
+    }
 }
 
 /// The run goes on.

@@ -1,15 +1,14 @@
 //! One step over any memory.
-ghost use Rattle.std.specs.Prelude.{◌≡◌, ◌+◌, ◌<◌, ◌^◌, nat_lt, not, ◌||◌, length, slice_get, IfErr, OnErr, Some, true};
+ghost use Rattle.std.specs.Prelude.{◌≡◌, ◌+◌, ◌<◌, ◌^◌, nat_lt, not, ◌||◌, length, slice_get, OnErr, Some, true};
 ghost use Rattle.mem_image.specs.Picture.{IsPicture};
 ghost use Rattle.seq_machine.specs.Owned.{OwnOf};
 ghost use Rattle.seq_effects.specs.Script.{Follows, chain, tell, sent};
 ghost use Rattle.seq_machine.specs.Acts.{top, acted, acted_of, control_of, function_at, block_at, op_at, ops_of};
-ghost use Rattle.seq_effects.specs.Effects.{IsStop};
 ghost use Rattle.seq_machine.specs.Frames.{CodeOk, FramesOf, FrameOf, HasMore};
 ghost use Rattle.seq_machine.specs.Meaning.{meaning, is_inner};
 ghost use Rattle.seq_machine.specs.Step.{settled, counted, here, script, site_of, site_at, has_next, StateOf, StepsTo, control, stands, shown};
 
-use crate::acts::act;
+use crate::acts::{act, make_slot, slot_made};
 use crate::execute::execute;
 use crate::state::{State, Step};
 use int_num::int::Int;
@@ -62,7 +61,7 @@ fn is_inner(op: &Op) -> bool
     }
 }
 
-/// An instruction of the top frame, and what its effect does.
+/// An instruction of the top frame, and what its effect does. A fault changes nothing.
 fn perform<M: Mem>(
     code: &Code,
     function: &FunctionCode,
@@ -86,15 +85,27 @@ fn perform<M: Mem>(
     ensures ready { M.ready memory.new }
     ensures follows { (f : _) → top frames.old ≡ Some f → Follows M.image M.relation (chain (meaning (here code.now function.now f input.now input_place.old) op.now) (λ e. tell (acted code.now function.now f (control_of frames.old input_place.old output.old) e))) memory.old (sent (acted_of frames.new input_place.new output.new) result) memory.new }
     ensures err { OnErr result ((frames.new ≡ frames.old) × (input_place.new ≡ input_place.old) × (output.new ≡ output.old)) }
-    ensures image { IfErr result (λ fault. IsStop fault → M.image memory.new ≡ M.image memory.old) }
+    ensures image { OnErr result (M.image memory.new ≡ M.image memory.old) }
     ensures kept { FramesOf code.now frames.new }
     ensures picture { IsPicture (M.image memory.new) }
     ensures own { OwnOf frames.new (M.image memory.new) }
 {
-    let frame = frames.at(frames.len() - 1);
-    match execute(code, function, frame, memory, site, input, *input_place, op) {
-        Ok(effect) => act(code, function, frames, input_place, output, effect),
-        Err(fault) => Err(fault),
+    match op {
+        Op::Alloca { to, size } => slot_made(make_slot(
+            &function.registers,
+            frames,
+            memory,
+            site,
+            *to,
+            *size,
+        )),
+        _ => {
+            let frame = frames.at(frames.len() - 1);
+            match execute(code, function, frame, memory, site, input, *input_place, op) {
+                Ok(effect) => act(code, function, frames, input_place, output, effect),
+                Err(fault) => Err(fault),
+            }
+        }
     }
 }
 
@@ -124,7 +135,7 @@ fn advance<M: Mem>(
     ensures ready { M.ready memory.new }
     ensures follows { Follows M.image M.relation (script code.now input.now (control_of frames.old input_place.old output.old)) memory.old (sent (acted_of frames.new input_place.new output.new) result) memory.new }
     ensures err { OnErr result ((frames.new ≡ frames.old) × (input_place.new ≡ input_place.old) × (output.new ≡ output.old)) }
-    ensures image { IfErr result (λ fault. IsStop fault → M.image memory.new ≡ M.image memory.old) }
+    ensures image { OnErr result (M.image memory.new ≡ M.image memory.old) }
     ensures kept { FramesOf code.now frames.new }
     ensures picture { IsPicture (M.image memory.new) }
     ensures own { OwnOf frames.new (M.image memory.new) }
@@ -164,7 +175,7 @@ fn site(code: &Code, frames: &List<Frame>) -> Site
     }
 }
 
-/// Takes one step. A trap changes nothing but the count of steps, and a failed check changes nothing.
+/// Takes one step. A trap changes nothing but the count of steps; a failed check or want of memory changes nothing.
 pub fn step<M: Mem>(code: &Code, state: &mut State<M>, input: &[u8]) -> Result<Step, Memory>
     requires code { CodeOk code.now }
     requires state { StateOf code.now (stands M.image state.old) }
@@ -174,6 +185,7 @@ pub fn step<M: Mem>(code: &Code, state: &mut State<M>, input: &[u8]) -> Result<S
     ensures kept { StateOf code.now (stands M.image state.new) }
     ensures follows { Follows M.image M.relation (script code.now input.now (control state.old)) state.old.memory (shown state.new result) state.new.memory }
     ensures step { StepsTo code.now input.now (stands M.image state.old) result (stands M.image state.new) }
+    ensures unmoved { OnErr result (stands M.image state.new ≡ stands M.image state.old) }
 {
     let site = site(code, &state.frames);
     let done = advance(
