@@ -57,6 +57,25 @@ impl Program {
         self.checked.module()
     }
 
+    /// The checked module.
+    pub fn checked(&self) -> &Checked
+        ensures { result.now ≡ self.now }
+    {
+        &self.checked
+    }
+
+    /// The checked module, given back. It takes no memory.
+    pub fn into_checked(self) -> Checked
+        ensures { result ≡ self }
+    {
+        let Program {
+            alloc: _,
+            checked,
+            code: _,
+        } = self;
+        checked
+    }
+
     /// The code of the module.
     pub fn code(&self) -> &Code
         ensures value { result.now ≡ code_of self.now }

@@ -5,6 +5,7 @@ pub mod accesses;
 pub mod addresses;
 pub mod flow;
 pub mod numbers;
+pub mod shared;
 pub mod state;
 pub mod values;
 pub mod words;

@@ -59,7 +59,7 @@ with_own frames f g t = owned_at frames (length frames - 1) g (last_is frames f 
 split : (frames : List Frame) (f : Frame) → top frames ≡ Some f → owned frames ≡ owned (without_top frames) ++ f.own
 split frames f t = ap owned (sym (set_same frames (length frames - 1) f t)) ∙ with_own frames f f t
 
-same_own : (frames : List Frame) (f g : Frame) → top frames ≡ Some f → g.own ≡ f.own → owned (with_top frames g) ≡ owned frames
+pub same_own : (frames : List Frame) (f g : Frame) → top frames ≡ Some f → g.own ≡ f.own → owned (with_top frames g) ≡ owned frames
 same_own frames f g t e = with_own frames f g t ∙ ap (λ ns. owned (without_top frames) ++ ns) e ∙ sym (split frames f t)
 
 owned_push : (frames : List Frame) (f : Frame) → f.own ≡ [] → owned (frames ++ f ∷ []) ≡ owned frames

@@ -37,7 +37,7 @@ fn nothing(alloc: Global) -> Frame {
 }
 
 /// Takes the top frame out.
-fn take_top(frames: &mut List<Frame>) -> Frame
+pub fn take_top(frames: &mut List<Frame>) -> Frame
     requires { 0 < length frames.old }
     ensures top { top frames.old ≡ Some result }
     ensures put { (f : _) → with_top frames.new f ≡ with_top frames.old f }
@@ -49,7 +49,7 @@ fn take_top(frames: &mut List<Frame>) -> Frame
 }
 
 /// Puts the top frame back.
-fn put_top(frames: &mut List<Frame>, frame: Frame)
+pub fn put_top(frames: &mut List<Frame>, frame: Frame)
     requires { 0 < length frames.old }
     ensures { frames.new ≡ with_top frames.old frame }
 {
@@ -58,7 +58,7 @@ fn put_top(frames: &mut List<Frame>, frame: Frame)
 }
 
 /// The top frame goes to the next instruction.
-fn next(frames: &mut List<Frame>)
+pub fn next(frames: &mut List<Frame>)
     requires filled { 0 < length frames.old }
     requires place { (f : _) → top frames.old ≡ Some f → f.place + 1 < 2 ^ 32 }
     ensures { (f : _) → top frames.old ≡ Some f → frames.new ≡ with_top frames.old (next f) }

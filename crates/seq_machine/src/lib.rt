@@ -5,4 +5,5 @@ pub mod acts;
 mod execute;
 pub mod machine;
 pub mod run;
+pub mod shared;
 pub mod state;

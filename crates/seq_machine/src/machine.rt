@@ -161,7 +161,7 @@ fn advance<M: Mem>(
 }
 
 /// The site of the instruction at which the top frame stands.
-fn site(code: &Code, frames: &List<Frame>) -> Site
+pub fn site(code: &Code, frames: &List<Frame>) -> Site
     requires code { CodeOk code.now }
     requires frames { FramesOf code.now frames.now }
     ensures { result ≡ site_of code.now (top frames.now) }
