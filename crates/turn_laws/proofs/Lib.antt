@@ -1,0 +1,10 @@
+pub mod Trees
+pub mod Turns
+pub mod Firsts
+pub mod Settled
+pub mod Standing
+pub mod Images
+pub mod Names
+pub mod Frames
+pub mod Sites
+pub mod Relations
