@@ -1,67 +1,65 @@
 -- What the words ask for, by the name of the command.
-use Rattle.std.proofs.Common.{◌≡◌, true, false, List, [], ◌∷◌, Option, Some, None, codes, refl, ap}
+use Rattle.std.proofs.Common.{◌≡◌, ◌≢◌, ◌&&◌, Bool, true, false, List, [], ◌∷◌, Option, Some, None, refl, ap, option_map, inl, inr, subst, sym}
 use Rattle.std.specs.Str.{bytes_eq}
-use Rattle.clap.specs.Words.{Row, Text, first_of, is_simple, is_simple_and_free, Kinds, HasMatchesOf, subcommand_rows_of, subcommand_name_of, App, fault_of, HasKind, IsAmong, kind_of}
+use Rattle.clap.specs.Words.{Row, Text, is_simple, is_simple_and_free, Kinds, HasMatchesOf, subcommand_rows_of, subcommand_name_of, App, fault_of, HasKind, IsAmong, kind_of}
 use Rattle.clap.specs.declared.Error.{Error}
 use Rattle.clap.specs.declared.error.ErrorKind.TheVariants.{OutOfMemory}
-use Rattle.std.proofs.Common.{option_map, inl, inr, ◌≢◌, subst}
-use Rattle.clap.proofs.OnLiterals.{clap_on_literals}
 use Rattle.clap.specs.declared.ArgMatches.{ArgMatches}
+use Rattle.clap.proofs.OnLiterals.{clap_on_literals}
 use Rattle.command_words.specs.CommandLine.{whole_app}
-use Rattle.command_words.specs.Requests.{asked_in, run_of, check_of, refused, lacking, asked_of_texts, asked_of_matches, asked_by, faults, matches}
+use Rattle.command_words.specs.Requests.{Commands, asked_in, refused, asked_of_texts, asked_of_matches, asked_by, faults, matches, IsTaken}
 
-pub asked_in-run : (name : Text) (rows : List Row) → bytes_eq name (codes "run") ≡ true
-    → asked_in name rows ≡ run_of (first_of (codes "MODULE") rows) (first_of (codes "INPUT") rows) (first_of (codes "budget") rows)
-asked_in-run name rows e = rw e refl
+-- ---- the command of a name
 
-pub asked_in-check : (name : Text) (rows : List Row) → bytes_eq name (codes "run") ≡ false → bytes_eq name (codes "check") ≡ true
-    → asked_in name rows ≡ check_of (first_of (codes "MODULE") rows)
-asked_in-check name rows a b = rw (a, b) refl
+pub named_first : (n : Text) (reader : List Row → _) (commands : Commands) (name : Text) (rows : List Row) → bytes_eq name n ≡ true
+    → asked_in ((n, reader) ∷ commands) name rows ≡ reader rows
+named_first n reader commands name rows e = rw e refl
 
-pub asked_in-none : (name : Text) (rows : List Row) → bytes_eq name (codes "run") ≡ false → bytes_eq name (codes "check") ≡ false
-    → asked_in name rows ≡ lacking
-asked_in-none name rows a b = rw (a, b) refl
+pub named_later : (n : Text) (reader : List Row → _) (commands : Commands) (name : Text) (rows : List Row) → bytes_eq name n ≡ false
+    → asked_in ((n, reader) ∷ commands) name rows ≡ asked_in commands name rows
+named_later n reader commands name rows e = rw e refl
 
-pub whole_is_simple : is_simple whole_app ≡ true
-unfolding whole_app clap_on_literals
-whole_is_simple = refl
+pub ruleset asked_lemmas = (named_first, named_later)
+
+-- ---- the app of the whole command line
 
 pub whole_is_free : is_simple_and_free whole_app ≡ true
 unfolding whole_app clap_on_literals
 whole_is_free = refl
 
-pub ruleset asked_lemmas = (asked_in-run, asked_in-check, asked_in-none)
+-- so is an app that is this one
+pub free_as : (app whole : App) → app ≡ whole → is_simple_and_free whole ≡ true → is_simple_and_free app ≡ true
+free_as app whole is free = subst (λ (a : App). is_simple_and_free a ≡ true) (sym is) free
 
 -- ---- from what a parse says of the words to what they ask
 
-no_faults : (ws : List Text) → fault_of whole_app ws ≡ [] → faults ws ≡ []
+first_holds : (a b : Bool) → (a && b) ≡ true → a ≡ true
+first_holds true b e = refl
+first_holds false b e = (cc)
+
+pub is_taken : (app : App) (ws : List Text) (m : ArgMatches) → is_simple_and_free app ≡ true → fault_of app ws ≡ [] → HasMatchesOf app ws m → IsTaken app ws m
+unfolding faults matches
+is_taken app ws m free fine has = record { fine = fine; same = (has (first_holds (is_simple app) _ free)).1 }
+
+none_among : (k : _) (ks : Kinds) → IsAmong k ks → ks ≢ []
+none_among k [] among e = absurd among
+none_among k (x ∷ xs) among e = (cc)
+
+pub some_fault : (app : App) (ws : List Text) (e : Error) → HasKind (fault_of app ws) e → kind_of e ≢ OutOfMemory → faults app ws ≢ []
 unfolding faults
-no_faults ws e = e
+some_fault app ws e has kind = elim has [ inl memory ↦ absurd (kind memory) | inr among ↦ none_among (kind_of e) (fault_of app ws) among ]
 
-the_matches : (ws : List Text) (m : ArgMatches) → HasMatchesOf whole_app ws m → subcommand_rows_of m ≡ matches ws
-unfolding matches
-the_matches ws m h = (h whole_is_simple).1
+module _ (app whole : App) (commands : Commands) (ws : List Text) (is : app ≡ whole) where
+  pub words_taken : (m : ArgMatches) → IsTaken app ws m → asked_of_matches commands (subcommand_rows_of m) ≡ asked_of_texts whole commands ws
+  words_taken m taken =
+      subst (λ (a : App). asked_of_matches commands (subcommand_rows_of m) ≡ asked_of_texts a commands ws) is (rw taken.fine (ap (asked_of_matches commands) taken.same))
 
-pub words_taken : (app : App) (ws : List Text) (m : ArgMatches) → app ≡ whole_app → HasMatchesOf app ws m
-    → (is_simple_and_free app ≡ true → fault_of app ws ≡ []) → asked_of_matches (subcommand_rows_of m) ≡ asked_of_texts ws
-words_taken app ws m is h free =
-    let h' : HasMatchesOf whole_app ws m = subst (λ (a : App). HasMatchesOf a ws m) is h in
-    let free' : is_simple_and_free whole_app ≡ true → fault_of whole_app ws ≡ [] = subst (λ (a : App). is_simple_and_free a ≡ true → fault_of a ws ≡ []) is free in
-    rw (no_faults ws (free' whole_is_free)) (ap asked_of_matches (the_matches ws m h'))
+  by_kinds : (ks : Kinds) → ks ≢ [] → refused ≡ asked_by commands ks (matches app ws)
+  by_kinds [] never = absurd (never refl)
+  by_kinds (x ∷ xs) never = refl
 
-among_some : (ws : List Text) (k : _) → IsAmong k (faults ws) → refused ≡ asked_of_texts ws
-among_some ws k h = by_kinds (faults ws) h
-  where
-    by_kinds : (ks : Kinds) → IsAmong k ks → refused ≡ asked_by ks (matches ws)
-    by_kinds [] among = absurd among
-    by_kinds (x ∷ xs) among = refl
-
-pub words_refused : (app : App) (ws : List Text) (e : Error) → app ≡ whole_app → (is_simple_and_free app ≡ true → HasKind (fault_of app ws) e)
-    → kind_of e ≢ OutOfMemory → refused ≡ asked_of_texts ws
-unfolding faults
-words_refused app ws e is free kind =
-    let free' : is_simple_and_free whole_app ≡ true → HasKind (fault_of whole_app ws) e = subst (λ (a : App). is_simple_and_free a ≡ true → HasKind (fault_of a ws) e) is free in
-    elim (free' whole_is_free) [ inl memory ↦ absurd (kind memory) | inr among ↦ among_some ws (kind_of e) among ]
+  pub words_refused : faults app ws ≢ [] → refused ≡ asked_of_texts whole commands ws
+  words_refused some = subst (λ (a : App). refused ≡ asked_of_texts a commands ws) is (by_kinds (faults app ws) some)
 
 abbrev paired : {X : Type 0} → (X → Text) → (X → List Row) → X → Text × List Row
 paired f g x = (f x, g x)

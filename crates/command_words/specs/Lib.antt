@@ -1,4 +1,5 @@
 pub mod Texts
+pub mod Usage
 pub mod Numbers
 pub mod CommandLine
 pub mod Plain

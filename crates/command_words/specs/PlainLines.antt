@@ -15,9 +15,13 @@ pub record IsPlainLine (command : Text) (names options needed : List Text) (item
   pub fine : ArePlain options names items []
   pub given : AllNamed needed (pairs_of names items)
 
+-- the text that the items give to a name, or what stands for it where they give none
+abbrev pub text_or : Text → List Text → List Item → Text → Text
+text_or default names items name = unwrap_or (value_in (pairs_of names items) name) default
+
 -- the text that the items give to a name
 abbrev pub text_in : List Text → List Item → Text → Text
-text_in names items name = unwrap_or (value_in (pairs_of names items) name) []
+text_in names items name = text_or [] names items name
 
 abbrev pub run_names : List Text
 run_names = codes "MODULE" ∷ codes "INPUT" ∷ []

@@ -1,20 +1,27 @@
 -- What the words of a command line ask, as `clap` reads them.
-use Rattle.std.specs.Prelude.{◌++◌, ◌&&◌, ℕ, nat_lt, length, Bool, List, [], ◌∷◌, Option, Some, None, codes, if◌then◌else◌, string_bytes}
+use Rattle.std.specs.Prelude.{◌≡◌, ℕ, List, [], ◌∷◌, Option, Some, None, Result, Ok, Err, codes, if◌then◌else◌, unwrap_or, string_bytes, ⊤}
 use Rattle.std.specs.Str.{bytes_eq}
-use Rattle.clap.specs.Words.{Row, Text, subcommand_of, first_of, Kinds, fault_of}
-use Rattle.command_words.specs.Texts.{are_texts}
-use Rattle.command_words.specs.Numbers.{number_within}
+use Rattle.clap.specs.Words.{App, Row, Text, subcommand_of, subcommand_rows_of, first_of, Kinds, fault_of}
+use Rattle.clap.specs.declared.ArgMatches.{ArgMatches}
+use Rattle.command_words.specs.Texts.{are_words}
+use Rattle.command_words.specs.Usage.{usage_words}
+use Rattle.command_words.specs.Numbers.{Numeral, numeral, numbers_of}
 use Rattle.command_words.specs.CommandLine.{whole_app}
 use Rattle.command_words.specs.declared.request.Request.{Request}
 use Rattle.command_words.specs.declared.request.Request.TheVariants as request
 
--- the kinds of error that `clap` has for the words; empty where it takes them
-unfoldable pub faults : List Text → Kinds
-faults words = fault_of whole_app words
+-- the kinds of error that `clap` has for the words, at this command line; empty where it takes them
+unfoldable pub faults : App → List Text → Kinds
+faults app words = fault_of app words
 
 -- the command that the words name, with its matches
-unfoldable pub matches : List Text → Option (Text × List Row)
-matches words = subcommand_of whole_app words
+unfoldable pub matches : App → List Text → Option (Text × List Row)
+matches app words = subcommand_of app words
+
+-- `clap` takes the words, with these matches
+pub record IsTaken (app : App) (words : List Text) (m : ArgMatches) : Type 0 where
+  pub fine : faults app words ≡ []
+  pub same : subcommand_rows_of m ≡ matches app words
 
 -- what is asked
 pub data Asked : Type 0 where
@@ -29,27 +36,26 @@ pub data Asked : Type 0 where
   -- the check of a module
   check : Text → Asked
 
-abbrev pub usage_words : Text
-usage_words = codes "usage words\n"
-
-abbrev pub usage_number : Text → Text → Text
-usage_number name text = codes "usage " ++ name ++ codes " " ++ text ++ codes "\n"
-
 -- the most steps that a budget may allow
 abbrev pub budget_limit : ℕ
 budget_limit = 1000000000000
 
-abbrev pub number_then : Text → Text → (ℕ → Asked) → Option ℕ → Asked
-number_then name text next (Some n) = next n
-number_then name text next None = usage (usage_number name text)
+abbrev pub numbers_then : (List ℕ → Asked) → Result (List ℕ) Text → Asked
+numbers_then next (Ok values) = next values
+numbers_then next (Err line) = usage line
 
--- a number from low to high, one to nineteen decimal digits, or the line that refuses the text
-abbrev pub with_number : Text → ℕ → ℕ → Text → (ℕ → Asked) → Asked
-with_number name low high text next = number_then name text next (number_within low high text)
+-- what is asked with the numbers of these texts, or the line that refuses the first text that is none within its limits
+abbrev pub with_numbers : List Numeral → (List ℕ → Asked) → Asked
+with_numbers ns next = numbers_then next (numbers_of ns)
+
+-- what is asked with the numbers of a run
+abbrev pub run_with : Text → Text → List ℕ → Asked
+run_with code input (budget ∷ []) = run code input budget
+run_with code input _ = lacking
 
 -- the run of these texts: the budget is a number from 1 on
 abbrev pub asked_run : Text → Text → Text → Asked
-asked_run code input budget = with_number (codes "--budget") 1 budget_limit budget (λ n. run code input n)
+asked_run code input budget = with_numbers (numeral (codes "--budget") 1 budget_limit budget ∷ []) (run_with code input)
 
 abbrev pub run_of : Option Text → Option Text → Option Text → Asked
 run_of (Some code) (Some input) (Some budget) = asked_run code input budget
@@ -59,32 +65,49 @@ abbrev pub check_of : Option Text → Asked
 check_of (Some code) = check code
 check_of None = lacking
 
--- what a command asks, by the first value of each of its words
-abbrev pub asked_in : Text → List Row → Asked
-asked_in name rows =
-    if bytes_eq name (codes "run")
-    then run_of (first_of (codes "MODULE") rows) (first_of (codes "INPUT") rows) (first_of (codes "budget") rows)
-    else (if bytes_eq name (codes "check") then check_of (first_of (codes "MODULE") rows) else lacking)
+-- the value of an option, or what stands for it where it is not given
+abbrev pub option_or : Text → Text → List Row → Text
+option_or name default rows = unwrap_or (first_of name rows) default
 
-abbrev pub asked_of_matches : Option (Text × List Row) → Asked
-asked_of_matches (Some m) = asked_in m.0 m.1
-asked_of_matches None = lacking
+-- what the matches of each command ask, by the first value of each of its words
+abbrev pub run_in : List Row → Asked
+run_in rows = run_of (first_of (codes "MODULE") rows) (first_of (codes "INPUT") rows) (first_of (codes "budget") rows)
 
-abbrev pub asked_by : Kinds → Option (Text × List Row) → Asked
-asked_by [] m = asked_of_matches m
-asked_by (k ∷ ks) m = refused
+abbrev pub check_in : List Row → Asked
+check_in rows = check_of (first_of (codes "MODULE") rows)
+
+-- commands: the name of each, and what its matches ask
+abbrev pub Commands : Type 0
+Commands = List (Text × (List Row → Asked))
+
+-- the commands of the whole command line
+abbrev pub whole_commands : Commands
+whole_commands = (codes "run", run_in) ∷ (codes "check", check_in) ∷ []
+
+-- what the command of this name asks
+abbrev pub asked_in : Commands → Text → List Row → Asked
+asked_in [] name rows = lacking
+asked_in (c ∷ commands) name rows = if bytes_eq name c.0 then c.1 rows else asked_in commands name rows
+
+abbrev pub asked_of_matches : Commands → Option (Text × List Row) → Asked
+asked_of_matches commands (Some m) = asked_in commands m.0 m.1
+asked_of_matches commands None = lacking
+
+abbrev pub asked_by : Commands → Kinds → Option (Text × List Row) → Asked
+asked_by commands [] m = asked_of_matches commands m
+asked_by commands (k ∷ ks) m = refused
 
 -- what words of text ask
-abbrev pub asked_of_texts : List Text → Asked
-asked_of_texts words = asked_by (faults words) (matches words)
+abbrev pub asked_of_texts : App → Commands → List Text → Asked
+asked_of_texts app commands words = asked_by commands (faults app words) (matches app words)
 
--- there is a word, and each is UTF-8
-abbrev pub are_words : List Text → Bool
-are_words words = nat_lt 0 (length words) && are_texts words
+-- what the words ask, at this command line; no word, or one that is not UTF-8, is refused before `clap` sees any
+abbrev pub asked_at : App → Commands → List Text → Asked
+asked_at app commands words = if are_words words then asked_of_texts app commands words else usage usage_words
 
--- what the words ask; no word, or one that is not UTF-8, is refused before `clap` sees any
+-- what the words ask, at the whole command line
 abbrev pub asked_of : List Text → Asked
-asked_of words = if are_words words then asked_of_texts words else usage usage_words
+asked_of words = asked_at whole_app whole_commands words
 
 -- what a request of the code asks
 abbrev pub asks : Request → Asked
@@ -92,3 +115,8 @@ asks (request.Usage line) = usage line
 asks (request.Refused text) = refused
 asks (request.Run code input budget) = run (string_bytes code) (string_bytes input) budget
 asks (request.Check code) = check (string_bytes code)
+
+-- what an answer is there for: no parse of words gives less than a command needs
+abbrev pub IsAnswered : Asked → Type 0
+IsAnswered lacking = ⊥
+IsAnswered _ = ⊤

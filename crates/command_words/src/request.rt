@@ -1,15 +1,17 @@
 //! What the words of a command line ask.
-ghost use Rattle.std.specs.Prelude.{◌≡◌, true, false, IfOk, map, option_map, string_bytes, MatchResult, Some, None};
-ghost use Rattle.clap.specs.Words.{found_of, rows_of, first_of};
-ghost use Rattle.command_words.specs.Numbers.{number_within};
-ghost use Rattle.command_words.specs.Requests.{asks, asked_of, asked_of_texts, asked_in, asked_run, run_of, check_of, usage, usage_words, usage_number};
+ghost use Rattle.std.specs.Prelude.{◌≡◌, IfOk, map};
+ghost use Rattle.clap.specs.Words.{found_of, rows_of};
+ghost use Rattle.command_words.specs.CommandLine.{whole_app};
+ghost use Rattle.command_words.specs.Requests.{asks, asked_of, asked_of_texts, asked_in, asked_run, whole_commands, run_of, check_of};
 ghost use Rattle.command_words.specs.PlainLines.{ReadsPlain, now_of};
 
 use crate::command_line::command_line;
-use crate::number::within;
-use crate::texts::texts;
+use crate::numerals::{Numeral, numbers};
+use crate::taken::taken;
+use crate::texts::words_as_texts;
+use crate::usage::usage_words;
+use crate::values::value_of;
 use clap::ArgMatches;
-use clap::error::ErrorKind;
 use pv_base::bytes::Bytes;
 use pv_base::want::Memory;
 use std::alloc::Global;
@@ -40,50 +42,25 @@ pub enum Request {
     },
 }
 
-fn usage_line(alloc: Global, name: &str, text: &str) -> Result<Bytes, Memory>
-    ensures { IfOk result (λ line. line ≡ usage_number name.now text.now) }
-{
-    let mut line = Bytes::from_slice(alloc, b"usage ")?;
-    line.append(name.as_bytes())?;
-    line.append(b" ")?;
-    line.append(text.as_bytes())?;
-    line.append(b"\n")?;
-    Ok(line)
-}
-
-/// The number within its limits, or the line that refuses its text.
-fn number_or_usage(
-    alloc: Global,
-    name: &str,
-    low: u64,
-    high: u64,
-    text: &str,
-) -> Result<Result<u64, Bytes>, Memory>
-    ensures { IfOk result (λ r. MatchResult r (λ n. number_within low high text.now ≡ Some n) (λ line. (number_within low high text.now ≡ None) × (line ≡ usage_number name.now text.now))) }
-{
-    match within(low, high, text.as_bytes()) {
-        Some(n) => Ok(Ok(n)),
-        None => {
-            let line = usage_line(alloc, name, text)?;
-            Ok(Err(line))
-        }
-    }
-}
-
 fn run_request(alloc: Global, code: &str, input: &str, budget: &str) -> Result<Request, Memory>
     ensures { IfOk result (λ r. asks r ≡ asked_run code.now input.now budget.now) }
 {
-    match number_or_usage(alloc, "--budget", 1, BUDGET_LIMIT, budget)? {
+    let budget = Numeral::new("--budget", 1, BUDGET_LIMIT, budget);
+    match numbers(alloc, &[budget])? {
         Err(line) => Ok(Request::Usage { line }),
-        Ok(budget) => {
-            let code = String::from_str(alloc, code)?;
-            let input = String::from_str(alloc, input)?;
-            Ok(Request::Run {
-                code,
-                input,
-                budget,
-            })
-        }
+        Ok(values) => match values.as_slice() {
+            [budget] => {
+                let code = String::from_str(alloc, code)?;
+                let input = String::from_str(alloc, input)?;
+                let budget = *budget;
+                Ok(Request::Run {
+                    code,
+                    input,
+                    budget,
+                })
+            }
+            _ => Err(Memory),
+        },
     }
 }
 
@@ -113,67 +90,45 @@ fn check_from(alloc: Global, code: Option<&str>) -> Result<Request, Memory>
     }
 }
 
-/// The value of an argument.
-fn value_of<'a>(matches: &ArgMatches<'a>, id: &str) -> Option<&'a str>
-    ensures { option_map (λ s. s.now) result ≡ first_of id.now (rows_of (found_of matches.now)) }
-{
-    matches.get_str(id)
-}
-
 /// What a command asks, by its name. That a word is missing after a parse does not happen, and is answered as want of
 /// memory.
 #[tactic(auto, using(crate::proofs::ReadLemmas::asked_lemmas))]
 fn read_matches(alloc: Global, name: &str, matches: &ArgMatches) -> Result<Request, Memory>
-    ensures { IfOk result (λ r. asks r ≡ asked_in name.now (rows_of (found_of matches.now))) }
+    ensures { IfOk result (λ r. asks r ≡ asked_in whole_commands name.now (rows_of (found_of matches.now))) }
 {
-    if name == "run" {
-        let code = value_of(matches, "MODULE");
-        let input = value_of(matches, "INPUT");
-        let budget = value_of(matches, "budget");
-        return run_from(alloc, code, input, budget);
+    match name {
+        "run" => {
+            let code = value_of(matches, "MODULE");
+            let input = value_of(matches, "INPUT");
+            let budget = value_of(matches, "budget");
+            run_from(alloc, code, input, budget)
+        }
+        "check" => check_from(alloc, value_of(matches, "MODULE")),
+        _ => Err(Memory),
     }
-    if name == "check" {
-        let code = value_of(matches, "MODULE");
-        return check_from(alloc, code);
-    }
-    Err(Memory)
 }
 
 fn read_texts<'a>(alloc: Global, words: &'a [&'a str]) -> Result<Request, Memory>
-    ensures { IfOk result (λ r. asks r ≡ asked_of_texts (map (λ s. s.now) words.entry.now)) }
+    ensures { IfOk result (λ r. asks r ≡ asked_of_texts whole_app whole_commands (map (λ s. s.now) words.entry.now)) }
 {
     let command = command_line(alloc)?;
-    match command.try_get_matches_from(words) {
+    match taken(alloc, command, words)? {
         Ok(matches) => match matches.subcommand() {
             Some((name, inner)) => read_matches(alloc, name, inner),
             None => Err(Memory),
         },
-        Err(e) => match e.kind() {
-            ErrorKind::OutOfMemory => Err(Memory),
-            _ => {
-                let text = e.to_string(alloc)?;
-                let text = Bytes::from_slice(alloc, text.as_bytes())?;
-                Ok(Request::Refused { text })
-            }
-        },
+        Err(text) => Ok(Request::Refused { text }),
     }
-}
-
-fn refused_words(alloc: Global) -> Result<Request, Memory>
-    ensures { IfOk result (λ r. asks r ≡ usage usage_words) }
-{
-    let line = Bytes::from_slice(alloc, b"usage words\n")?;
-    Ok(Request::Usage { line })
 }
 
 fn read_exactly(alloc: Global, words: &[Bytes]) -> Result<Request, Memory>
     ensures { IfOk result (λ r. asks r ≡ asked_of words.now) }
 {
-    if words.is_empty() {
-        return refused_words(alloc);
-    }
-    match texts(alloc, words)? {
-        None => refused_words(alloc),
+    match words_as_texts(alloc, words)? {
+        None => {
+            let line = usage_words(alloc)?;
+            Ok(Request::Usage { line })
+        }
         Some(all) => read_texts(alloc, all.as_slice()),
     }
 }

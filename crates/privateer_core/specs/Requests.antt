@@ -12,11 +12,6 @@ IsUsage (usage line) = ⊤
 IsUsage refused = ⊤
 IsUsage _ = ⊥
 
--- what an answer is there for: no parse of words gives less than a command needs
-abbrev pub IsAnswered : Asked → Type 0
-IsAnswered lacking = ⊥
-IsAnswered _ = ⊤
-
 -- What the words and the contents of the files determine, where these are told; `clap` refuses words with a text of its own.
 abbrev pub wanted_of : (Text → Option Text) → Text → Asked → Option Answer
 wanted_of content told (usage line) = Some (refuses 4 line)

@@ -1,8 +1,8 @@
 //! What is answered to the words.
 ghost use Rattle.std.specs.Prelude.{◌≡◌, ◌≤◌, ◌↔◌, IfOk};
-ghost use Rattle.command_words.specs.Requests.{asked_of, asks};
+ghost use Rattle.command_words.specs.Requests.{asked_of, asks, IsAnswered};
 ghost use Rattle.plain_commands.specs.Answers.{Answers};
-ghost use Rattle.privateer_core.specs.Requests.{Wanted, IsUsage, IsAnswered};
+ghost use Rattle.privateer_core.specs.Requests.{Wanted, IsUsage};
 
 use command_words::request::{Request, read_request};
 use plain_commands::answer::{Answer, refuse};

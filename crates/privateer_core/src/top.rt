@@ -3,9 +3,9 @@ ghost use Rattle.std.specs.Prelude.{◌≡◌, ◌≢◌, ◌<◌, ◌≤◌, �
 ghost use Rattle.pv_base.specs.Outside.{Text, Rose, AppendsFront, appended};
 ghost use Rattle.plain_commands.specs.Answers.{IsAnswer, IsQuiet, fault_line};
 ghost use Rattle.privateer_core.specs.Delivering.{Delivers, PutsAll};
-ghost use Rattle.command_words.specs.Requests.{asked_of, lacking};
+ghost use Rattle.command_words.specs.Requests.{asked_of, lacking, IsAnswered};
 ghost use Rattle.command_words.specs.PlainLines.{ReadsPlain};
-ghost use Rattle.privateer_core.specs.Requests.{Wanted, IsUsage, IsAnswered};
+ghost use Rattle.privateer_core.specs.Requests.{Wanted, IsUsage};
 
 use crate::requests::answer;
 use plain_commands::answer::Answer;
