@@ -18,6 +18,8 @@ mod memory;
 #[cfg(test)]
 mod modules;
 #[cfg(test)]
+mod states;
+#[cfg(test)]
 mod statuses;
 #[cfg(test)]
 mod tables;

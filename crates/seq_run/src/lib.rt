@@ -2,6 +2,7 @@
 #![tactic(auto)]
 
 pub mod header;
+pub mod headers;
 pub mod outcome;
 pub mod run;
 pub mod start;
