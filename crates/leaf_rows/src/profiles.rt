@@ -82,7 +82,18 @@ const TEXTS: &[(&str, Option<Fault>)] = &[
     ("privateer-profile 1", None),
     ("privateer-profile 1\n", None),
     ("# a comment\n\nprivateer-profile 1\n\n# a comment", None),
-    ("privateer-profile 2\n", Some((1, ProfileCause::Head))),
+    ("privateer-profile 2", None),
+    ("privateer-profile 2\n", None),
+    ("privateer-profile 2 \n", Some((1, ProfileCause::Head))),
+    ("privateer-profile 3\n", Some((1, ProfileCause::Head))),
+    ("privateer-profile 0\n", Some((1, ProfileCause::Head))),
+    ("privateer-profile 02\n", Some((1, ProfileCause::Head))),
+    ("privateer-profile 22\n", Some((1, ProfileCause::Head))),
+    ("privateer-profile\n", Some((1, ProfileCause::Head))),
+    (
+        "period 4\nprivateer-profile 2\n",
+        Some((1, ProfileCause::Head)),
+    ),
     ("privateer-profile 1 \n", Some((1, ProfileCause::Head))),
     ("privateer-profile 1\r\n", Some((1, ProfileCause::Head))),
     ("#\nloop @main %head\n", Some((2, ProfileCause::Head))),
@@ -90,7 +101,35 @@ const TEXTS: &[(&str, Option<Fault>)] = &[
         "privateer-profile 1\nprivateer-profile 1\n",
         Some((2, ProfileCause::Word)),
     ),
+    (
+        "privateer-profile 1\nprivateer-profile 2\n",
+        Some((2, ProfileCause::Word)),
+    ),
+    (
+        "privateer-profile 2\nprivateer-profile 1\n",
+        Some((2, ProfileCause::Word)),
+    ),
     ("privateer-profile 1\n \n", Some((2, ProfileCause::Word))),
+    (
+        "privateer-profile 1\nperiod 4\n",
+        Some((2, ProfileCause::Word)),
+    ),
+    (
+        "privateer-profile 2\nperiod 4\n",
+        Some((2, ProfileCause::Order)),
+    ),
+    (
+        "privateer-profile 2\nperiod 0\n",
+        Some((2, ProfileCause::Number)),
+    ),
+    (
+        "privateer-profile 2\nloop @main %head\nperiod 4",
+        Some((3, ProfileCause::Order)),
+    ),
+    (
+        "privateer-profile 2\nloop @main %head\nperiod 4\n#\n",
+        Some((4, ProfileCause::Order)),
+    ),
     ("privateer-profile 1\nend\n", Some((2, ProfileCause::Order))),
     (
         "privateer-profile 1\nblock %a\n",
@@ -262,6 +301,84 @@ fn lines_of_a_loop_are_taken_or_have_faults(rt: HostRuntime) {
     assert_eq!(rt; first_misread(rt.alloc(), LOOP, LINES, "end\n"), None);
 }
 
+/// A loop's line in a text of the first version, so that the next line is line 3.
+const FIRST: &str = "privateer-profile 1\nloop @main %head\n";
+
+const FIRST_PERIODS: &[(&str, Option<Fault>)] = &[
+    ("", None),
+    ("period 4\n", Some((3, ProfileCause::Word))),
+    ("period 0\n", Some((3, ProfileCause::Word))),
+    (
+        "period 18446744073709551617\n",
+        Some((3, ProfileCause::Word)),
+    ),
+    ("block %a\nperiod 4\n", Some((4, ProfileCause::Word))),
+];
+
+/// The same in a text of the second version.
+const SECOND: &str = "privateer-profile 2\nloop @main %head\n";
+
+const SECOND_PERIODS: &[(&str, Option<Fault>)] = &[
+    ("", None),
+    ("period 1\n", None),
+    ("period 65533\n", None),
+    ("period 0\n", Some((3, ProfileCause::Number))),
+    ("period 65534\n", Some((3, ProfileCause::Number))),
+    // The numbers 2^32+4, 2^63-1, 2^63 and 2^64+1.
+    ("period 4294967300\n", Some((3, ProfileCause::Number))),
+    (
+        "period 9223372036854775807\n",
+        Some((3, ProfileCause::Number)),
+    ),
+    (
+        "period 9223372036854775808\n",
+        Some((3, ProfileCause::Number)),
+    ),
+    (
+        "period 18446744073709551617\n",
+        Some((3, ProfileCause::Number)),
+    ),
+    ("period 0004\n", None),
+    ("period 00000000000000000004\n", None),
+    ("period  4\n", Some((3, ProfileCause::Word))),
+    ("period 4 \n", Some((3, ProfileCause::Word))),
+    ("period 4 4\n", Some((3, ProfileCause::Word))),
+    ("period 65534 4\n", Some((3, ProfileCause::Word))),
+    ("period \n", Some((3, ProfileCause::Word))),
+    ("period\n", Some((3, ProfileCause::Word))),
+    ("period -4\n", Some((3, ProfileCause::Word))),
+    ("period +4\n", Some((3, ProfileCause::Word))),
+    ("periods 4\n", Some((3, ProfileCause::Word))),
+    ("#\n\nperiod 4\n", None),
+    ("period 4\n#\n", None),
+    ("period 4\nperiod 4\n", Some((4, ProfileCause::Order))),
+    ("period 4\nperiod 5\n", Some((4, ProfileCause::Order))),
+    ("period 4\nperiod 0\n", Some((4, ProfileCause::Number))),
+    ("period 4\nperiod x\n", Some((4, ProfileCause::Word))),
+    ("block %a\nperiod 4\n", Some((4, ProfileCause::Order))),
+    (
+        "block %a\nphi %i same\nperiod 4\n",
+        Some((5, ProfileCause::Order)),
+    ),
+    ("block %a\nend\nperiod 4\n", Some((5, ProfileCause::Order))),
+    ("period 4\nphi %i same\n", Some((4, ProfileCause::Order))),
+    ("period 4\nend\n", Some((4, ProfileCause::Order))),
+    ("period 4\nloop @main %b\n", Some((4, ProfileCause::Order))),
+    ("period 4\nblock %a\nend\nloop @main %b\nperiod 4\n", None),
+    (
+        "period 4\nblock %a\nend\nloop @main %head\nperiod 5\n",
+        Some((6, ProfileCause::Repeat)),
+    ),
+];
+
+#[test]
+fn a_period_stands_directly_after_its_loop(rt: HostRuntime) {
+    let alloc = rt.alloc();
+    let behind = "block %head\nend\n";
+    assert_eq!(rt; first_misread(alloc, FIRST, FIRST_PERIODS, behind), None);
+    assert_eq!(rt; first_misread(alloc, SECOND, SECOND_PERIODS, behind), None);
+}
+
 /// The counter's profile.
 const COUNTER: &str =
     "privateer-profile 1\nloop @main %head\nblock %head\nblock %body\nblock %latch\nphi %i step 1\nuse @main:4/0 @n\nuse @main:6/0 @n\nend\n";
@@ -327,6 +444,10 @@ const SAMPLES: &[(&str, [usize; 7])] = &[
         [5, 1, 3, 0, 0, 0, 0],
     ),
     (
+        "privateer-profile 2\nloop @main %head\nblock %head\nblock %body\nblock %latch\nphi %i step 1\nuse @main:8/0 @tail\nuse @main:9/0 @tail\nuse @main:10/0 @main:4\nlocal @main:4\nend\n",
+        [3, 1, 3, 1, 0, 0, 0],
+    ),
+    (
         "privateer-profile 1\nloop @main %head\nblock %head\nphi %i step -9223372036854775808\nvalue @a 0 ff\nend",
         [1, 1, 0, 0, 0, 1, 1],
     ),
@@ -347,6 +468,57 @@ fn sample_profiles_have_these_sizes(rt: HostRuntime) {
     assert_eq!(rt; first_of_other_sizes(rt.alloc(), SAMPLES), None);
 }
 
+/// The version of a profile, and the periods of its first two loops.
+type Periods = (u32, Option<u32>, Option<u32>);
+
+const READ_PERIODS: &[(&str, Periods)] = &[
+    ("privateer-profile 1\n", (1, None, None)),
+    ("privateer-profile 2\n", (2, None, None)),
+    (COUNTER, (1, None, None)),
+    (
+        "privateer-profile 2\nloop @main %head\nblock %head\nend\nloop @main %b\nperiod 65533\nblock %b\nend\n",
+        (2, None, Some(65_533)),
+    ),
+    (
+        "privateer-profile 2\nloop @main %head\nperiod 0004\nblock %head\nend\nloop @main %b\nperiod 1\nblock %b\nend",
+        (2, Some(4), Some(1)),
+    ),
+    (
+        "privateer-profile 2\nloop @main %head0\nperiod 300\nblock %head0\nblock %body0\nblock %latch0\nphi %i0 step 1\nend\n",
+        (2, Some(300), None),
+    ),
+];
+
+/// What a text says of its version and its periods; none where it is no profile.
+fn periods(alloc: Global, text: &str) -> Option<Periods> {
+    if text.len() > 1_000_000 {
+        return None;
+    }
+    let Ok(profile) = read_profile(alloc, text.as_bytes()) else {
+        return None;
+    };
+    match profile.loops.as_slice() {
+        [first, second, ..] => Some((profile.version, first.period, second.period)),
+        [first] => Some((profile.version, first.period, None)),
+        [] => Some((profile.version, None, None)),
+    }
+}
+
+/// The first text of another version or of other periods than those behind it.
+fn first_of_other_periods<'a>(alloc: Global, rows: &[(&'a str, Periods)]) -> Option<&'a str> {
+    for (text, wanted) in rows {
+        if periods(alloc, *text) != Some(*wanted) {
+            return Some(*text);
+        }
+    }
+    None
+}
+
+#[test]
+fn versions_and_periods_are_read(rt: HostRuntime) {
+    assert_eq!(rt; first_of_other_periods(rt.alloc(), READ_PERIODS), None);
+}
+
 const BLOCK: &str = "privateer-profile 1\nloop @main %head\nblock %";
 
 const VALUE: &str = "privateer-profile 1\nloop @main %head\nblock %head\nvalue @a 0 ";
@@ -354,6 +526,8 @@ const VALUE: &str = "privateer-profile 1\nloop @main %head\nblock %head\nvalue @
 const PHI: &str = "privateer-profile 1\nloop @main %head\nblock %head\nphi %i same\nblock %";
 
 const TWICE: &str = "privateer-profile 1\nloop @main %head\nblock %head\nphi %4 same\nphi %";
+
+const PERIOD: &str = "privateer-profile 2\nloop @main %head\nperiod ";
 
 /// Texts of a unit so many times between a front and an end, and their faults.
 const STRETCHED: &[(&str, &str, usize, &str, Option<Fault>)] = &[
@@ -370,6 +544,21 @@ const STRETCHED: &[(&str, &str, usize, &str, Option<Fault>)] = &[
     (VALUE, "0a", 2043, "\nend", Some((4, ProfileCause::TooLong))),
     (PHI, "a", 4090, "\nend", Some((5, ProfileCause::TooLong))),
     (PHI, "a", 4089, "\nend", Some((5, ProfileCause::Order))),
+    (PERIOD, "0", 4088, "4\nblock %head\nend", None),
+    (
+        PERIOD,
+        "0",
+        4089,
+        "4\nblock %head\nend",
+        Some((3, ProfileCause::TooLong)),
+    ),
+    (
+        PERIOD,
+        "0",
+        4089,
+        "\nblock %head\nend",
+        Some((3, ProfileCause::Number)),
+    ),
     (
         TWICE,
         "0",

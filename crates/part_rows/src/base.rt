@@ -118,10 +118,7 @@ fn a_host_sink_writes_a_file(rt: HostRuntime) -> Result<(), Fail> {
     Ok(())
 }
 
-const NARROW: &[(&str, Result<(), SinkFault>)] = &[
-    ("abc", Ok(())),
-    ("de", Err(SinkFault)),
-];
+const NARROW: &[(&str, Result<(), SinkFault>)] = &[("abc", Ok(())), ("de", Err(SinkFault))];
 
 #[test]
 fn a_writer_that_takes_nothing_is_a_fault(rt: HostRuntime) {

@@ -4,10 +4,10 @@ use Rattle.std.specs.Prelude.{◌⊎◌}
 use Rattle.pv_base.specs.Outside.{Text}
 use Rattle.profile_lines.specs.declared.profile.ProfileCause.{ProfileCause}
 use Rattle.profile_lines.specs.declared.profile.ProfileCause.TheVariants.{Head}
-use Rattle.profile_lines.specs.declared.lines.Line.{Line}
 use Rattle.profile_lines.specs.Cuts.{Reading}
 use Rattle.profile_reader.specs.declared.read.ProfileError.{ProfileError}
 use Rattle.profile_reader.specs.Texts.{lines_of}
+use Rattle.profile_reader.specs.Grammar.{Saying}
 use Rattle.profile_reader.specs.Reading.{Said, step, is_last, go_on, said_from, headed, said_of}
 use Rattle.profile_laws.specs.Laws.{Right, FirstAmong, FirstFault}
 
@@ -72,16 +72,16 @@ first_among said n [] error e = absurd (no_error said error e)
 first_among said n (text ∷ texts) error e =
     first_of_step said n text texts error (step said (is_last texts) text) (λ now. first_among now (n + 1) texts error) refl e
 
-same_head : (e f : ProfileError) → ◌≡◌ {A = Result (List Line) ProfileError} (Err e) (Err f) → f ≡ e
+same_head : (e f : ProfileError) → ◌≡◌ {A = Result Saying ProfileError} (Err e) (Err f) → f ≡ e
 same_head e f h = cc
 
-not_read : (lines : List Line) (e : ProfileError) → Ok lines ≡ Err e → ⊥
-not_read lines e h = cc
+not_read : (said : Saying) (e : ProfileError) → Ok said ≡ Err e → ⊥
+not_read said e h = cc
 
 first_by_end : (text : Text) (error : ProfileError) (r : Result Said ProfileError) → said_from None 1 (lines_of text) ≡ r → headed r ≡ Err error
     → FirstFault text error ⊎ (error ≡ at 1 Head)
 first_by_end text error (Ok None) is e = inr (same_head _ _ e)
-first_by_end text error (Ok (Some lines)) is e = absurd (not_read lines error e)
+first_by_end text error (Ok (Some said)) is e = absurd (not_read said error e)
 first_by_end text error (Err found) is e =
     inl (first_among None 1 (lines_of text) error (is ∙ ap (λ (f : ProfileError). Err f) (sym (same_head _ _ e))))
 

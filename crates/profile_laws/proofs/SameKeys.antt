@@ -9,7 +9,7 @@ use Rattle.profile_lines.specs.declared.profile.ObjectName.{ObjectName}
 use Rattle.profile_lines.specs.declared.profile.ObjectName.TheVariants.{Global, At}
 use Rattle.profile_lines.specs.declared.profile.PhiWord.TheVariants.{Same}
 use Rattle.profile_lines.specs.declared.lines.Line.{Line}
-use Rattle.profile_lines.specs.declared.lines.Line.TheVariants.{Loop, Block, Phi, Use, Local, Flow, Value, End}
+use Rattle.profile_lines.specs.declared.lines.Line.TheVariants.{Loop, Period, Block, Phi, Use, Local, Flow, Value, End}
 use Rattle.profile_lines.specs.Keys.{name_key, site_key, object_key, key_of}
 use Rattle.profile_reader.specs.Reading.{says_again}
 use Rattle.profile_laws.specs.Laws.{asked}
@@ -85,12 +85,13 @@ phi_after p = Phi (record { register = p.0; guess = Same })
 abbrev line_at : ℕ → List ℕ → Line
 line_at tag ks =
     cond (eqb tag 0) (loop_after (name_back ks)) (
-    cond (eqb tag 1) (Block (name_back ks).0) (
-    cond (eqb tag 2) (phi_after (name_back ks)) (
-    cond (eqb tag 3) (use_after (site_back ks)) (
-    cond (eqb tag 4) (Local (site_back ks).0) (
-    cond (eqb tag 5) (flow_after (object_back ks)) (
-    cond (eqb tag 6) (value_after (name_back ks)) End))))))
+    cond (eqb tag 1) (Period (first ks)) (
+    cond (eqb tag 2) (Block (name_back ks).0) (
+    cond (eqb tag 3) (phi_after (name_back ks)) (
+    cond (eqb tag 4) (use_after (site_back ks)) (
+    cond (eqb tag 5) (Local (site_back ks).0) (
+    cond (eqb tag 6) (flow_after (object_back ks)) (
+    cond (eqb tag 7) (value_after (name_back ks)) End)))))))
 
 abbrev line_back : List ℕ → Line
 line_back ks = line_at (first ks) (others ks)
@@ -104,6 +105,7 @@ local_after p = Local p.0
 back : (line : Line) → line_back (key_of line) ≡ asked line
 back (Loop function header) =
     ap loop_after (named function (name_key header)) ∙ ap (λ (p : ProfileName × List ℕ). Loop function p.0) (named_last header)
+back (Period turns) = refl
 back (Block name) = ap block_after (named_last name)
 back (Phi line) = ap phi_after (named_last line.register)
 back (Use line) =
@@ -122,6 +124,7 @@ back End = refl
 -- of a phi the list has the register alone
 key_of_asked : (line : Line) → key_of (asked line) ≡ key_of line
 key_of_asked (Loop function header) = refl
+key_of_asked (Period turns) = refl
 key_of_asked (Block name) = refl
 key_of_asked (Phi line) = refl
 key_of_asked (Use line) = refl

@@ -6,20 +6,21 @@ use Rattle.profile_lines.specs.declared.profile.ProfileCause.{ProfileCause}
 use Rattle.profile_lines.specs.declared.profile.ProfileCause.TheVariants.{Head}
 use Rattle.profile_lines.specs.declared.profile.PhiWord.TheVariants.{Same}
 use Rattle.profile_lines.specs.declared.lines.Line.{Line}
-use Rattle.profile_lines.specs.declared.lines.Line.TheVariants.{Loop, Block, Phi, Use, Local, Flow, Value, End}
+use Rattle.profile_lines.specs.declared.lines.Line.TheVariants.{Loop, Period, Block, Phi, Use, Local, Flow, Value, End}
 use Rattle.profile_reader.specs.declared.read.ProfileError.{ProfileError}
 use Rattle.profile_reader.specs.Texts.{lines_of}
-use Rattle.profile_reader.specs.Grammar.{profile_lines}
+use Rattle.profile_reader.specs.Grammar.{profile_says}
 use Rattle.profile_reader.specs.Reading.{Said, says_again, step, is_last, said_of}
 
--- no two profiles have the same lines
+-- no two profiles have the same version and the same lines
 abbrev pub OneProfile : Type 0
-OneProfile = (p q : Profile) → profile_lines p ≡ profile_lines q → p ≡ q
+OneProfile = (p q : Profile) → profile_says p ≡ profile_says q → p ≡ q
 
 -- what is asked of a line that may repeat another: all of it, but of a phi its register alone
 abbrev pub asked : Line → Line
 asked (Phi line) = Phi (record { register = line.register; guess = Same })
 asked (Loop function header) = Loop function header
+asked (Period turns) = Period turns
 asked (Block name) = Block name
 asked (Use line) = Use line
 asked (Local site) = Local site

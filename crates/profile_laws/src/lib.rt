@@ -4,7 +4,7 @@
 ghost use Rattle.profile_laws.specs.Accepted.{AcceptsTheGrammar};
 ghost use Rattle.profile_laws.specs.Laws.{OneProfile, KeysTell, FaultsAreFirst, FirstFaultsAreFound};
 
-/// No two profiles have the same lines, so a text is the text of at most one.
+/// No two profiles have the same version and the same lines, so a text is the text of at most one.
 pub fn one_profile()
     ensures { OneProfile }
 {}

@@ -7,7 +7,7 @@ use Rattle.profile_lines.specs.declared.profile.SiteName.{SiteName}
 use Rattle.profile_lines.specs.declared.profile.ObjectName.{ObjectName}
 use Rattle.profile_lines.specs.declared.profile.ObjectName.TheVariants.{Global, At}
 use Rattle.profile_lines.specs.declared.lines.Line.{Line}
-use Rattle.profile_lines.specs.declared.lines.Line.TheVariants.{Loop, Block, Phi, Use, Local, Flow, Value, End}
+use Rattle.profile_lines.specs.declared.lines.Line.TheVariants.{Loop, Period, Block, Phi, Use, Local, Flow, Value, End}
 
 abbrev pub name_key : ProfileName → List ℕ
 name_key (Named bytes) = 1 ∷ length bytes ∷ bytes
@@ -23,16 +23,18 @@ object_key (At site) = 1 ∷ site_key site
 -- the place of a line's word in the order of a loop's lines
 abbrev pub rank : Line → ℕ
 rank (Loop function header) = 0
-rank (Block name) = 1
-rank (Phi line) = 2
-rank (Use line) = 3
-rank (Local site) = 4
-rank (Flow line) = 5
-rank (Value line) = 6
-rank End = 7
+rank (Period turns) = 1
+rank (Block name) = 2
+rank (Phi line) = 3
+rank (Use line) = 4
+rank (Local site) = 5
+rank (Flow line) = 6
+rank (Value line) = 7
+rank End = 8
 
 abbrev pub fields_key : Line → List ℕ
 fields_key (Loop function header) = name_key function ++ name_key header
+fields_key (Period turns) = turns ∷ []
 fields_key (Block name) = name_key name
 fields_key (Phi line) = name_key line.register
 fields_key (Use line) = (site_key line.at ++ line.slot ∷ []) ++ object_key line.object

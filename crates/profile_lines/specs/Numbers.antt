@@ -19,6 +19,15 @@ abbrev pub number_of : Text → Reading ℕ
 number_of text =
     if is_digits text then (if nat_lt (decimal text) (2 ^ 63) then Ok (decimal text) else Err Number) else Err Word
 
+-- a number that was read, where it is a period's length
+abbrev pub in_period : Reading ℕ → Reading ℕ
+in_period (Ok n) = if nat_le 1 n && nat_le n 65533 then Ok n else Err Number
+in_period (Err cause) = Err cause
+
+-- a number from 1 to 65,533
+abbrev pub period_of : Text → Reading ℕ
+period_of text = in_period (number_of text)
+
 -- the negative of a number of at most 2^63
 abbrev pub negative_of : Text → Reading ℤ
 negative_of text =

@@ -14,13 +14,14 @@ pub fn rank(line: &Line) -> u64
 {
     match line {
         Line::Loop(_, _) => 0,
-        Line::Block(_) => 1,
-        Line::Phi(_) => 2,
-        Line::Use(_) => 3,
-        Line::Local(_) => 4,
-        Line::Flow(_) => 5,
-        Line::Value(_) => 6,
-        Line::End => 7,
+        Line::Period(_) => 1,
+        Line::Block(_) => 2,
+        Line::Phi(_) => 3,
+        Line::Use(_) => 4,
+        Line::Local(_) => 5,
+        Line::Flow(_) => 6,
+        Line::Value(_) => 7,
+        Line::End => 8,
     }
 }
 
@@ -88,6 +89,7 @@ fn add_fields(key: &mut Vec<u64>, line: &Line) -> Result<(), Memory>
             add_name(key, function)?;
             add_name(key, header)
         }
+        Line::Period(turns) => add(key, u64::from(*turns)),
         Line::Block(name) => add_name(key, name),
         Line::Phi(line) => add_name(key, &line.register),
         Line::Use(line) => {

@@ -1,13 +1,13 @@
 //! What one line says.
 ghost use Rattle.std.specs.Prelude.{◌≡◌, IfOk};
-ghost use Rattle.profile_lines.specs.Lines.{is_passed_over as is_passed_over_of, line_of as line_of_text, fields, guess_of, worded as worded_of, loop_line as loop_of, block_line as block_of, phi_line as phi_of, use_line as use_of, local_line as local_of, flow_line as flow_of, value_line as value_of};
+ghost use Rattle.profile_lines.specs.Lines.{is_passed_over as is_passed_over_of, version_of as version_of_text, line_of as line_of_text, fields, guess_of, worded as worded_of, loop_line as loop_of, period_line as period_of, block_line as block_of, phi_line as phi_of, use_line as use_of, local_line as local_of, flow_line as flow_of, value_line as value_of};
 ghost use Rattle.std.specs.Str.{bytes_eq};
 ghost use Rattle.profile_lines.specs.Numbers.{number_of, value_of as value_bytes};
 
 use crate::cut::{both, cut};
 use crate::hex::value;
 use crate::name::{global_name, local_name};
-use crate::number::{number, signed};
+use crate::number::{number, period, signed};
 use crate::profile::{
     FlowLine, PhiLine, PhiWord, ProfileCause, ProfileName, SiteName, UseLine, ValueLine,
 };
@@ -20,6 +20,7 @@ use std::alloc::Global;
 #[derive(Drop)]
 pub enum Line {
     Loop(ProfileName, ProfileName),
+    Period(u32),
     Block(ProfileName),
     Phi(PhiLine),
     Use(UseLine),
@@ -36,6 +37,19 @@ pub fn is_passed_over(text: &[u8]) -> bool
     match text {
         [] => true,
         [first, ..] => *first == b'#',
+    }
+}
+
+/// The version that a first line names.
+pub fn version_of(text: &[u8]) -> Option<u32>
+    ensures { result ≡ version_of_text text.now }
+{
+    if is_word(text, "privateer-profile 1") {
+        Some(1)
+    } else if is_word(text, "privateer-profile 2") {
+        Some(2)
+    } else {
+        None
     }
 }
 
@@ -73,6 +87,15 @@ fn loop_line(alloc: Global, text: &[u8]) -> Result<Result<Line, ProfileCause>, M
     match both(global_name(alloc, function)?, local_name(alloc, header)?) {
         Ok((function, header)) => Ok(Ok(Line::Loop(function, header))),
         Err(cause) => Ok(Err(cause)),
+    }
+}
+
+fn period_line(text: &[u8]) -> Result<Line, ProfileCause>
+    ensures { result ≡ period_of text.now }
+{
+    match period(text) {
+        Ok(turns) => Ok(Line::Period(turns)),
+        Err(cause) => Err(cause),
     }
 }
 
@@ -170,12 +193,23 @@ fn value_line(alloc: Global, text: &[u8]) -> Result<Result<Line, ProfileCause>, 
     }
 }
 
-/// A word and its fields.
-fn worded(alloc: Global, word: &[u8], text: &[u8]) -> Result<Result<Line, ProfileCause>, Memory>
-    ensures { IfOk result (λ line. line ≡ worded_of word.now text.now) }
+/// A word and its fields in a text of this version; version 1 has no word `period`.
+fn worded(
+    alloc: Global,
+    version: u32,
+    word: &[u8],
+    text: &[u8],
+) -> Result<Result<Line, ProfileCause>, Memory>
+    ensures { IfOk result (λ line. line ≡ worded_of version word.now text.now) }
 {
     if is_word(word, "loop") {
         loop_line(alloc, text)
+    } else if is_word(word, "period") {
+        if version == 2 {
+            Ok(period_line(text))
+        } else {
+            Ok(Err(ProfileCause::Word))
+        }
     } else if is_word(word, "block") {
         block_line(alloc, text)
     } else if is_word(word, "phi") {
@@ -193,12 +227,16 @@ fn worded(alloc: Global, word: &[u8], text: &[u8]) -> Result<Result<Line, Profil
     }
 }
 
-/// What a line says that is not passed over, not the first of them, and not too long.
-pub fn line_of(alloc: Global, text: &[u8]) -> Result<Result<Line, ProfileCause>, Memory>
-    ensures { IfOk result (λ line. line ≡ line_of_text text.now) }
+/// What a line says in a text of this version that is not passed over, not the first of them, and not too long.
+pub fn line_of(
+    alloc: Global,
+    version: u32,
+    text: &[u8],
+) -> Result<Result<Line, ProfileCause>, Memory>
+    ensures { IfOk result (λ line. line ≡ line_of_text version text.now) }
 {
     match cut(b' ', text) {
-        Some((word, text)) => worded(alloc, word, text),
+        Some((word, text)) => worded(alloc, version, word, text),
         None if is_word(text, "end") => Ok(Ok(Line::End)),
         None => Ok(Err(ProfileCause::Word)),
     }

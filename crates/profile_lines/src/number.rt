@@ -1,6 +1,6 @@
 //! Numbers in decimal digits.
 ghost use Rattle.std.specs.Prelude.{◌≡◌, ◌-◌, ◌^◌, min};
-ghost use Rattle.profile_lines.specs.Numbers.{is_digits as is_digits_of, decimal, number_of, negative_of, signed_of};
+ghost use Rattle.profile_lines.specs.Numbers.{is_digits as is_digits_of, decimal, number_of, period_of, negative_of, signed_of};
 
 use crate::profile::ProfileCause;
 
@@ -41,6 +41,17 @@ pub fn number(text: &[u8]) -> Result<u64, ProfileCause>
         Ok(value)
     } else {
         Err(ProfileCause::Number)
+    }
+}
+
+/// A number from 1 to 65,533.
+pub fn period(text: &[u8]) -> Result<u32, ProfileCause>
+    ensures { result ≡ period_of text.now }
+{
+    match number(text) {
+        Ok(value) if (1..=65_533).contains(&value) => Ok(value as u32),
+        Ok(_) => Err(ProfileCause::Number),
+        Err(cause) => Err(cause),
     }
 }
 

@@ -5,13 +5,15 @@ use pv_base::list::List;
 /// What is wrong with a line, in the order in which one line is tested.
 #[derive(Clone, Copy, Debug, PartialEq, Eq)]
 pub enum ProfileCause {
-    /// The first line that is not passed over is another than `privateer-profile 1`, or there is none.
+    /// The first line that is not passed over is another than `privateer-profile 1` and
+    /// `privateer-profile 2`, or there is none.
     Head,
-    /// An unknown word, another number of fields, or a field of another shape.
+    /// An unknown word, as `period` is in version 1, another number of fields, or a field of another shape.
     Word,
     /// A number above 2^63-1, or outside its range.
     Number,
-    /// A word out of order, a loop without a block, or a loop without its end.
+    /// A word out of order, a `period` that does not stand directly after its `loop`, a loop without a block, or a loop
+    /// without its end.
     Order,
     /// A line that an earlier one of its loop said, a second phi of one register, or a loop named before.
     Repeat,
@@ -86,6 +88,8 @@ pub struct ValueLine {
 pub struct ProfileLoop {
     pub function: ProfileName,
     pub header: ProfileName,
+    /// The loop's period length, 1 to 65,533 turns, where the text gives it one.
+    pub period: Option<u32>,
     pub blocks: List<ProfileName>,
     pub phis: List<PhiLine>,
     pub uses: List<UseLine>,
@@ -95,8 +99,9 @@ pub struct ProfileLoop {
     pub values: List<ValueLine>,
 }
 
-/// The loops of a profile, in the order of the text.
+/// A profile: the version of its text, 1 or 2, and its loops in the order of the text.
 #[derive(Drop)]
 pub struct Profile {
+    pub version: u32,
     pub loops: List<ProfileLoop>,
 }

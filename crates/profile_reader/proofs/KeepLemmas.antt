@@ -1,5 +1,5 @@
 -- A line at the end of its loop.
-use Rattle.std.proofs.Common.{◌≡◌, List, [], ◌∷◌, ◌++◌, sym, ap, ◌∙◌, arith}
+use Rattle.std.proofs.Common.{◌≡◌, ℕ, List, [], ◌∷◌, ◌++◌, None, Some, refl, sym, ap, ◌∙◌, arith}
 use Rattle.std.specs.Prelude.{map}
 use Rattle.std.proofs.lemmas.List.{append-nil, append_assoc, map_push}
 use Rattle.profile_lines.specs.declared.profile.ProfileName.{ProfileName}
@@ -10,8 +10,8 @@ use Rattle.profile_lines.specs.declared.profile.FlowLine.{FlowLine}
 use Rattle.profile_lines.specs.declared.profile.ValueLine.{ValueLine}
 use Rattle.profile_lines.specs.declared.profile.ProfileLoop.{ProfileLoop}
 use Rattle.profile_lines.specs.declared.lines.Line.{Line}
-use Rattle.profile_lines.specs.declared.lines.Line.TheVariants.{Loop, Block, Phi, Use, Local, Flow, Value}
-use Rattle.profile_reader.specs.Grammar.{open_lines}
+use Rattle.profile_lines.specs.declared.lines.Line.TheVariants.{Loop, Period, Block, Phi, Use, Local, Flow, Value}
+use Rattle.profile_reader.specs.Grammar.{open_lines, period_lines}
 use Rattle.profile_reader.specs.Standing.{InOrder}
 
 -- one more at the end of one kind of line, with empty kinds after it
@@ -53,46 +53,46 @@ put5 : {X : Type 0} (A : List Line) (f : X → Line) (xs : List X) (x : X)
     → (((((A ++ map f (xs ++ x ∷ [])) ++ []) ++ []) ++ []) ++ []) ++ [] ≡ ((((((A ++ map f xs) ++ []) ++ []) ++ []) ++ []) ++ []) ++ f x ∷ []
 put5 A f xs x = empty_after5 (A ++ map f (xs ++ x ∷ [])) (A ++ map f xs) (f x ∷ []) (put0 A f xs x)
 
-abbrev front_blocks : ProfileLoop → List Line
-front_blocks l = Loop l.function l.header ∷ []
+abbrev pub front_blocks : ProfileLoop → List Line
+front_blocks l = (Loop l.function l.header ∷ []) ++ period_lines l.period
 
-abbrev front_phis : ProfileLoop → List Line
+abbrev pub front_phis : ProfileLoop → List Line
 front_phis l = front_blocks l ++ map (λ x. Block x) l.blocks
 
-abbrev front_uses : ProfileLoop → List Line
+abbrev pub front_uses : ProfileLoop → List Line
 front_uses l = front_phis l ++ map (λ x. Phi x) l.phis
 
-abbrev front_locals : ProfileLoop → List Line
+abbrev pub front_locals : ProfileLoop → List Line
 front_locals l = front_uses l ++ map (λ x. Use x) l.uses
 
-abbrev front_flows : ProfileLoop → List Line
+abbrev pub front_flows : ProfileLoop → List Line
 front_flows l = front_locals l ++ map (λ x. Local x) l.locals
 
-abbrev front_values : ProfileLoop → List Line
+abbrev pub front_values : ProfileLoop → List Line
 front_values l = front_flows l ++ map (λ x. Flow x) l.flows
 
-pub put_value : (l : ProfileLoop) (x : ValueLine) → InOrder l 6 → open_lines (record l { values = l.values ++ x ∷ [] }) ≡ open_lines l ++ Value x ∷ []
+pub put_value : (l : ProfileLoop) (x : ValueLine) → InOrder l 7 → open_lines (record l { values = l.values ++ x ∷ [] }) ≡ open_lines l ++ Value x ∷ []
 put_value l x h = put0 (front_values l) (λ y. Value y) l.values x
 
-pub put_flow : (l : ProfileLoop) (x : FlowLine) → InOrder l 5 → open_lines (record l { flows = l.flows ++ x ∷ [] }) ≡ open_lines l ++ Flow x ∷ []
+pub put_flow : (l : ProfileLoop) (x : FlowLine) → InOrder l 6 → open_lines (record l { flows = l.flows ++ x ∷ [] }) ≡ open_lines l ++ Flow x ∷ []
 put_flow l x h =
     let no_values : l.values ≡ [] = h.values (omega arith) in
     rw no_values (put1 (front_flows l) (λ y. Flow y) l.flows x)
 
-pub put_local : (l : ProfileLoop) (x : SiteName) → InOrder l 4 → open_lines (record l { locals = l.locals ++ x ∷ [] }) ≡ open_lines l ++ Local x ∷ []
+pub put_local : (l : ProfileLoop) (x : SiteName) → InOrder l 5 → open_lines (record l { locals = l.locals ++ x ∷ [] }) ≡ open_lines l ++ Local x ∷ []
 put_local l x h =
     let no_flows : l.flows ≡ [] = h.flows (omega arith) in
     let no_values : l.values ≡ [] = h.values (omega arith) in
     rw (no_flows, no_values) (put2 (front_locals l) (λ y. Local y) l.locals x)
 
-pub put_use : (l : ProfileLoop) (x : UseLine) → InOrder l 3 → open_lines (record l { uses = l.uses ++ x ∷ [] }) ≡ open_lines l ++ Use x ∷ []
+pub put_use : (l : ProfileLoop) (x : UseLine) → InOrder l 4 → open_lines (record l { uses = l.uses ++ x ∷ [] }) ≡ open_lines l ++ Use x ∷ []
 put_use l x h =
     let no_locals : l.locals ≡ [] = h.locals (omega arith) in
     let no_flows : l.flows ≡ [] = h.flows (omega arith) in
     let no_values : l.values ≡ [] = h.values (omega arith) in
     rw (no_locals, no_flows, no_values) (put3 (front_uses l) (λ y. Use y) l.uses x)
 
-pub put_phi : (l : ProfileLoop) (x : PhiLine) → InOrder l 2 → open_lines (record l { phis = l.phis ++ x ∷ [] }) ≡ open_lines l ++ Phi x ∷ []
+pub put_phi : (l : ProfileLoop) (x : PhiLine) → InOrder l 3 → open_lines (record l { phis = l.phis ++ x ∷ [] }) ≡ open_lines l ++ Phi x ∷ []
 put_phi l x h =
     let no_uses : l.uses ≡ [] = h.uses (omega arith) in
     let no_locals : l.locals ≡ [] = h.locals (omega arith) in
@@ -100,7 +100,7 @@ put_phi l x h =
     let no_values : l.values ≡ [] = h.values (omega arith) in
     rw (no_uses, no_locals, no_flows, no_values) (put4 (front_phis l) (λ y. Phi y) l.phis x)
 
-pub put_block : (l : ProfileLoop) (x : ProfileName) → InOrder l 1 → open_lines (record l { blocks = l.blocks ++ x ∷ [] }) ≡ open_lines l ++ Block x ∷ []
+pub put_block : (l : ProfileLoop) (x : ProfileName) → InOrder l 2 → open_lines (record l { blocks = l.blocks ++ x ∷ [] }) ≡ open_lines l ++ Block x ∷ []
 put_block l x h =
     let no_phis : l.phis ≡ [] = h.phis (omega arith) in
     let no_uses : l.uses ≡ [] = h.uses (omega arith) in
@@ -108,3 +108,13 @@ put_block l x h =
     let no_flows : l.flows ≡ [] = h.flows (omega arith) in
     let no_values : l.values ≡ [] = h.values (omega arith) in
     rw (no_phis, no_uses, no_locals, no_flows, no_values) (put5 (front_blocks l) (λ y. Block y) l.blocks x)
+
+pub put_period : (l : ProfileLoop) (turns : ℕ) → InOrder l 1 → l.period ≡ None → open_lines (record l { period = Some turns }) ≡ open_lines l ++ Period turns ∷ []
+put_period l turns h none =
+    let no_blocks : l.blocks ≡ [] = h.blocks (omega arith) in
+    let no_phis : l.phis ≡ [] = h.phis (omega arith) in
+    let no_uses : l.uses ≡ [] = h.uses (omega arith) in
+    let no_locals : l.locals ≡ [] = h.locals (omega arith) in
+    let no_flows : l.flows ≡ [] = h.flows (omega arith) in
+    let no_values : l.values ≡ [] = h.values (omega arith) in
+    rw (none, no_blocks, no_phis, no_uses, no_locals, no_flows, no_values) refl

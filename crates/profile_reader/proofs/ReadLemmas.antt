@@ -1,5 +1,5 @@
 -- One line more, and the end of the text.
-use Rattle.std.proofs.Common.{◌≡◌, ℕ, suc, ◌+◌, Bool, true, false, cond, eqb, List, [], ◌∷◌, None, Ok, Err, length, refl, sym, ap, ◌∙◌, inl, inr, arith}
+use Rattle.std.proofs.Common.{◌≡◌, ℕ, suc, ◌+◌, Bool, true, false, cond, eqb, List, [], ◌∷◌, None, Some, Ok, Err, length, refl, sym, ap, ◌∙◌, inl, inr, arith}
 use Rattle.std.specs.List.{flat_map}
 use Rattle.std.proofs.lemmas.List.{append-nil}
 use Rattle.std.proofs.lemmas.Bool.Decides.{eqb_tells}
@@ -9,7 +9,7 @@ use Rattle.profile_lines.specs.declared.profile.ProfileCause.TheVariants.{Head}
 use Rattle.profile_lines.specs.Cuts.{Reading}
 use Rattle.profile_reader.specs.declared.reader.Reader.{Reader}
 use Rattle.profile_reader.specs.Texts.{lines_of, before_lines}
-use Rattle.profile_reader.specs.Grammar.{loop_lines}
+use Rattle.profile_reader.specs.Grammar.{loop_lines, saying}
 use Rattle.profile_reader.specs.Reading.{Said, step, is_last, said_from, go_on, headed}
 use Rattle.profile_reader.specs.Standing.{said_by}
 
@@ -44,8 +44,8 @@ pub line_refused : (said : Said) (n : ℕ) (rest first tail : Text) (last : Bool
 line_refused said n rest first tail last cause lines ends refused =
     said_more said n rest first tail last lines ends ∙ ap (λ (s : Reading Said). go_on n s (λ then. said_from then (n + 1) (lines_of tail))) refused
 
-pub ends_headed : (r : Reader) → r.headed ≡ true → r.open ≡ None → headed (Ok (said_by r)) ≡ Ok (flat_map loop_lines r.loops)
-ends_headed r is_headed closed = rw (is_headed, closed) (ap (λ l. Ok l) (append-nil (flat_map loop_lines r.loops)))
+pub ends_headed : (r : Reader) (version : ℕ) → r.version ≡ Some version → r.open ≡ None → headed (Ok (said_by r)) ≡ Ok (saying version (flat_map loop_lines r.loops))
+ends_headed r version is_headed closed = rw (is_headed, closed) (ap (λ l. Ok (saying version l)) (append-nil (flat_map loop_lines r.loops)))
 
-pub ends_unheaded : (r : Reader) → r.headed ≡ false → headed (Ok (said_by r)) ≡ Err (record { line = 1; cause = Head })
+pub ends_unheaded : (r : Reader) → r.version ≡ None → headed (Ok (said_by r)) ≡ Err (record { line = 1; cause = Head })
 ends_unheaded r no_head = rw no_head refl

@@ -7,17 +7,22 @@ use Rattle.profile_lines.specs.declared.profile.ProfileCause.TheVariants.{Head, 
 use Rattle.profile_lines.specs.declared.lines.Line.{Line}
 use Rattle.profile_lines.specs.Cuts.{Reading}
 use Rattle.profile_lines.specs.Keys.{rank, key_of}
-use Rattle.profile_lines.specs.Lines.{is_passed_over, head_line, line_of}
+use Rattle.profile_lines.specs.Lines.{is_passed_over, version_of, line_of}
 use Rattle.profile_reader.specs.declared.read.ProfileError.{ProfileError}
 use Rattle.profile_reader.specs.Texts.{lines_of}
+use Rattle.profile_reader.specs.Grammar.{Saying, saying}
 
 -- the place in the order of the last line's word; before all lines that of `end`
 abbrev pub last_rank : List Line → ℕ
-last_rank lines = fold (λ _ line. rank line) 7 lines
+last_rank lines = fold (λ _ line. rank line) 8 lines
 
--- which word may stand after which: `loop` after `end`, `block` after `loop`, and after another word no earlier one
+-- which word may stand after which: `loop` after `end`, `period` or `block` after `loop`, `block` after `period`, and after
+-- another word no earlier one
 abbrev pub follows : ℕ → ℕ → Bool
-follows last next = if last == 7 then next == 0 else (if last == 0 then next == 1 else nat_le last next)
+follows last next =
+    if last == 8
+    then next == 0
+    else (if last == 0 then next == 1 || next == 2 else (if last == 1 then next == 2 else nat_le last next))
 
 abbrev pub is_loop : Line → Bool
 is_loop line = rank line == 0
@@ -38,33 +43,37 @@ says_again line earlier = bytes_eq (key_of earlier) (key_of line)
 abbrev pub repeats : List Line → Line → Bool
 repeats lines line = list_any (says_again line) (if is_loop line then named_loops lines else this_loop lines)
 
--- the lines said so far; None before the first line
+-- what was said so far; None before the first line
 abbrev pub Said : Type 0
-Said = Option (List Line)
+Said = Option Saying
 
 -- a line that is passed over; `last` tells that no line comes after it
 abbrev pub pass : Said → Bool → Reading Said
 pass None last = Ok None
-pass (Some lines) last = if last && not (last_rank lines == 7) then Err Order else Ok (Some lines)
+pass (Some said) last = if last && not (last_rank said.lines == 8) then Err Order else Ok (Some said)
 
 -- the first line that is not passed over
+abbrev pub begin_with : Option ℕ → Reading Said
+begin_with None = Err Head
+begin_with (Some version) = Ok (Some (saying version []))
+
 abbrev pub begin : Text → Reading Said
-begin text = if bytes_eq text head_line then Ok (Some []) else Err Head
+begin text = begin_with (version_of text)
 
 -- a line that says something
-abbrev pub add : List Line → Bool → Line → Reading Said
-add lines last line =
-    if follows (last_rank lines) (rank line) && (not last || rank line == 7)
-    then (if repeats lines line then Err Repeat else Ok (Some (lines ++ line ∷ [])))
+abbrev pub add : Saying → Bool → Line → Reading Said
+add said last line =
+    if follows (last_rank said.lines) (rank line) && (not last || rank line == 8)
+    then (if repeats said.lines line then Err Repeat else Ok (Some (saying said.version (said.lines ++ line ∷ []))))
     else Err Order
 
-abbrev pub add_read : List Line → Bool → Reading Line → Reading Said
-add_read lines last (Ok line) = add lines last line
-add_read lines last (Err cause) = Err cause
+abbrev pub add_read : Saying → Bool → Reading Line → Reading Said
+add_read said last (Ok line) = add said last line
+add_read said last (Err cause) = Err cause
 
 abbrev pub take_line : Said → Bool → Text → Reading Said
 take_line None last text = begin text
-take_line (Some lines) last text = add_read lines last (line_of text)
+take_line (Some said) last text = add_read said last (line_of said.version text)
 
 abbrev pub step : Said → Bool → Text → Reading Said
 step said last text =
@@ -87,11 +96,11 @@ said_from said line [] = Ok said
 said_from said line (text ∷ texts) =
     go_on line (step said (is_last texts) text) (λ now. said_from now (line + 1) texts)
 
-abbrev pub headed : Result Said ProfileError → Result (List Line) ProfileError
+abbrev pub headed : Result Said ProfileError → Result Saying ProfileError
 headed (Ok None) = Err (record { line = 1; cause = Head })
-headed (Ok (Some lines)) = Ok lines
+headed (Ok (Some said)) = Ok said
 headed (Err error) = Err error
 
--- what a text says after its first line, or its first fault
-abbrev pub said_of : Text → Result (List Line) ProfileError
+-- what a text says, or its first fault
+abbrev pub said_of : Text → Result Saying ProfileError
 said_of text = headed (said_from None 1 (lines_of text))

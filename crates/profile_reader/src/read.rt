@@ -1,7 +1,8 @@
 //! Reads a profile.
-ghost use Rattle.std.specs.Prelude.{◌≡◌, ◌<◌, ◌^◌, length, IfOk};
+ghost use Rattle.std.specs.Prelude.{◌≡◌, ◌<◌, ◌^◌, ◌⊎◌, length, IfOk};
+ghost use Rattle.std.specs.List.{All};
 ghost use Rattle.profile_reader.specs.declared.read.ProfileEnd.TheVariants.{Memory};
-ghost use Rattle.profile_reader.specs.Reads.{Reads};
+ghost use Rattle.profile_reader.specs.Reads.{Reads, PeriodFits};
 ghost use Rattle.profile_reader.specs.Reading.{said_of};
 
 use crate::lines::first_line;
@@ -34,11 +35,13 @@ impl From<Memory> for ProfileEnd {
     }
 }
 
-/// Reads the text of a profile, which has fewer than 2^32 loops.
+/// Reads the text of a profile, which has fewer than 2^32 loops, and periods within their bounds.
 pub fn read_profile(alloc: Global, text: &[u8]) -> Result<Profile, ProfileEnd>
     requires { length text.now < 2 ^ 32 }
     ensures reads { Reads (said_of text.now) result }
     ensures loops { IfOk result (λ profile. length profile.loops < 2 ^ 32) }
+    ensures version { IfOk result (λ profile. (profile.version ≡ 1) ⊎ (profile.version ≡ 2)) }
+    ensures periods { IfOk result (λ profile. All (λ l. PeriodFits profile.version l.period) profile.loops) }
 {
     read_lines(alloc, text)
 }
@@ -61,8 +64,9 @@ fn read_lines(alloc: Global, text: &[u8]) -> Result<Profile, ProfileEnd>
             return Err(ProfileEnd::Bad(ProfileError { line, cause }));
         }
     }
-    if reader.headed {
+    if let Some(version) = reader.version {
         return Ok(Profile {
+            version,
             loops: reader.loops,
         });
     }

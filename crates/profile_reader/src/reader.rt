@@ -1,13 +1,14 @@
 //! A profile as far as its lines are read.
-ghost use Rattle.std.specs.Prelude.{not, IsTrue, false, ◌&&◌, ◌||◌, ◌==◌};
+ghost use Rattle.std.specs.Prelude.{not, IsTrue, ◌&&◌, ◌||◌, ◌==◌};
 ghost use Rattle.profile_lines.specs.Keys.{rank as rank_of};
 ghost use Rattle.std.specs.Prelude.{◌≡◌, ◌++◌, ◌∷◌, [], ◌≤◌, ◌<◌, ℕ, IfOk, OnOk, Some, None, true};
 ghost use Rattle.profile_reader.specs.Reading.{follows as follows_of, step, pass as pass_of, begin as begin_of, add as add_of, repeats};
+ghost use Rattle.profile_reader.specs.Grammar.{saying};
 
 use crate::put::{empty_loop, put};
 use crate::repeats::note;
 use profile_lines::keys::rank;
-use profile_lines::lines::{Line, is_passed_over, line_of};
+use profile_lines::lines::{Line, is_passed_over, line_of, version_of};
 use profile_lines::profile::{ProfileCause, ProfileLoop};
 use pv_base::list::List;
 use pv_base::want::Memory;
@@ -18,15 +19,17 @@ const MOST_BYTES: usize = 4096;
 
 const LOOP: u64 = 0;
 
-const BLOCK: u64 = 1;
+const PERIOD: u64 = 1;
 
-const END: u64 = 7;
+const BLOCK: u64 = 2;
+
+const END: u64 = 8;
 
 /// The loops whose ends are read, the loop that is open, and what the lines said.
 #[derive(Drop)]
 pub struct Reader {
-    /// The first line is read.
-    pub headed: bool,
+    /// The version that the first line names, once it is read.
+    pub version: Option<u32>,
     pub loops: List<ProfileLoop>,
     pub open: Option<ProfileLoop>,
     /// The place of the last line's word in the order of a loop's lines; that of `end` where there is none.
@@ -44,6 +47,8 @@ fn follows(last: u64, next: u64) -> bool
     if last == END {
         next == LOOP
     } else if last == LOOP {
+        next == PERIOD || next == BLOCK
+    } else if last == PERIOD {
         next == BLOCK
     } else {
         last <= next
@@ -52,7 +57,7 @@ fn follows(last: u64, next: u64) -> bool
 
 /// Whether a word may stand after another, and is that of an end where no line comes after it.
 fn fits(before: u64, next: u64, last: bool) -> bool
-    ensures { result ≡ (follows_of before next && (not last || next == 7)) }
+    ensures { result ≡ (follows_of before next && (not last || next == 8)) }
 {
     follows(before, next) && (!last || next == END)
 }
@@ -67,7 +72,7 @@ impl Reader {
         ensures closed { result.open ≡ None }
     {
         Reader {
-            headed: false,
+            version: None,
             loops: List::new(alloc),
             open: None,
             last: END,
@@ -87,10 +92,10 @@ impl Reader {
         if text.len() > MOST_BYTES {
             return Ok(Err(ProfileCause::TooLong));
         }
-        if !self.headed {
+        let Some(version) = self.version else {
             return Ok(self.begin(text, last));
-        }
-        match line_of(self.loops.alloc(), text)? {
+        };
+        match line_of(self.loops.alloc(), version, text)? {
             Ok(line) => self.add(line, last),
             Err(cause) => Ok(Err(cause)),
         }
@@ -110,20 +115,19 @@ impl Reader {
 
     fn begin(&mut self, text: &[u8], last: bool) -> Result<(), ProfileCause>
         requires stands { Stands self.old }
-        requires none { self.old.headed ≡ false }
+        requires none { self.old.version ≡ None }
         ensures { Takes last (begin_of text.now) self.new result }
     {
-        if text != b"privateer-profile 1".as_slice() {
+        let Some(version) = version_of(text) else {
             return Err(ProfileCause::Head);
-        }
-        self.headed = true;
+        };
+        self.version = Some(version);
         Ok(())
     }
 
     fn add(&mut self, line: Line, last: bool) -> Result<Result<(), ProfileCause>, Memory>
         requires stands { Stands self.old }
-        requires headed { self.old.headed ≡ true }
-        ensures { IfOk result (λ taken. Takes last (add_of (lines_said self.old) last line) self.new taken) }
+        ensures { (version : ℕ) → self.old.version ≡ Some version → IfOk result (λ taken. Takes last (add_of (saying version (lines_said self.old)) last line) self.new taken) }
     {
         let next = rank(&line);
         let fitting = fits(self.last, next, last);
@@ -148,7 +152,7 @@ impl Reader {
         ensures loops { self.new.loops ≡ self.old.loops }
         ensures opened { self.new.open ≡ self.old.open }
         ensures last { self.new.last ≡ self.old.last }
-        ensures headed { self.new.headed ≡ self.old.headed }
+        ensures headed { self.new.version ≡ self.old.version }
     {
         let alloc = self.loops.alloc();
         if next == LOOP {
@@ -168,7 +172,7 @@ impl Reader {
         ensures last { self.new.last ≡ next }
         ensures said { self.new.said ≡ self.old.said }
         ensures named { self.new.named ≡ self.old.named }
-        ensures headed { self.new.headed ≡ self.old.headed }
+        ensures headed { self.new.version ≡ self.old.version }
     {
         self.last = next;
         if let Line::Loop(function, header) = line {
