@@ -45,7 +45,7 @@ pub fn op_here<'a, M>(code: &'a Code, state: &State<M>) -> &'a Op
 }
 
 /// The block in which the top one of these frames stands.
-fn block_of_top<'a>(code: &'a Code, frames: &List<Frame>) -> &'a BlockCode
+pub(crate) fn block_of_top<'a>(code: &'a Code, frames: &List<Frame>) -> &'a BlockCode
     requires { FramesOf code.now frames.now }
     ensures { (f : _) → top frames.now ≡ Some f → block_at code.now f ≡ Some result.now }
 {

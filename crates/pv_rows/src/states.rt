@@ -10,6 +10,7 @@ use machine_calls::change::{set_register, skip, unset_register};
 use machine_calls::copy::{copy_frame, copy_state};
 use machine_calls::place::{has_more, header_here, here, op_here};
 use machine_calls::result::result_register;
+use machine_calls::turn::{LoopBlocks, run_turn};
 use mem_image::image::Image;
 use plain_commands::loading::{Loaded, load};
 use pv_base::list::List;
@@ -129,12 +130,31 @@ skipped 1 frames, 2 steps, place 2, register 7
 set 1 frames, 2 steps, place 2, register 42
 unset 1 frames, 2 steps, place 2, no register
 kept 1 frames, 1 steps, place 1, register 7
+turn Left, 1 frames, 16 steps, place 0, register 7
 AtHeader(1) site 0 2, result Some(2), header Some(1), more true
 skipped 2 frames, 4 steps, place 2, register 3
 set 2 frames, 4 steps, place 2, register 42
 unset 2 frames, 4 steps, place 2, no register
 kept 2 frames, 3 steps, place 1, register 3
+turn Arrived, 2 frames, 6 steps, place 1, register 3
 ";
+
+/// How the turn of a loop of one block ends that begins at a copy of the state.
+fn turn_line(
+    alloc: Global,
+    program: &Program,
+    state: &State<Image>,
+    header: Header,
+) -> Result<String, Memory>
+    requires { StateOf (code_of program.now) state.now }
+{
+    let blocks = List::from_slice(alloc, &[header.block])?;
+    let of = LoopBlocks::new(alloc, program.code(), header, &blocks)?;
+    let mut copy = copy_state(state)?;
+    let end = run_turn(program, &mut copy, b"", 100, &of)?;
+    let after = shown(alloc, &copy)?;
+    Ok(format!(in alloc; "turn {end:?}, {after}\n")?)
+}
 
 /// The lines of the next header at which a run stands.
 fn next_lines(
@@ -142,6 +162,7 @@ fn next_lines(
     program: &Program,
     headers: &Headers,
     state: &mut State<Image>,
+    header: Header,
 ) -> Result<String, Memory>
     requires { StateOf (code_of program.now) state.old }
     ensures { IfOk result (λ _. StateOf (code_of program.now) state.new) }
@@ -149,7 +170,8 @@ fn next_lines(
     let stop = run_to_header(program, state, b"", 100, headers)?;
     let place = place_line(alloc, program, headers, state)?;
     let changes = change_lines(alloc, program, state)?;
-    Ok(format!(in alloc; "{stop:?} {place}{changes}")?)
+    let turn = turn_line(alloc, program, state, header)?;
+    Ok(format!(in alloc; "{stop:?} {place}{changes}{turn}")?)
 }
 
 /// The lines of the first two headers at which a run stands.
@@ -157,8 +179,8 @@ fn lines(alloc: Global, program: &Program) -> Result<String, Memory> {
     let list = List::from_slice(alloc, &HEADERS)?;
     let headers = Headers::new(alloc, program.code(), &list)?;
     let mut state = start(program)?;
-    let mut text = next_lines(alloc, program, &headers, &mut state)?;
-    text.push_str(next_lines(alloc, program, &headers, &mut state)?.as_str())?;
+    let mut text = next_lines(alloc, program, &headers, &mut state, HEADERS[0])?;
+    text.push_str(next_lines(alloc, program, &headers, &mut state, HEADERS[1])?.as_str())?;
     Ok(text)
 }
 
