@@ -1,6 +1,5 @@
 -- What the commands answer, from how the text of the module is taken.
-use Rattle.std.proofs.Common.{◌≡◌, ◌≢◌, ◌≤◌, ◌<◌, ◌⊎◌, inl, ℕ, refl, sym, ◌∙◌, ap, subst, [], length, Option, Some, None, IfSome, option_map, Result, Ok, Err, IfOk, Bool, true, false, nat_lt, if◌then◌else◌, arith}
-use Rattle.std.proofs.lemmas.Bool.{lt-ltb}
+use Rattle.std.proofs.Common.{◌≡◌, ◌≤◌, ◌⊎◌, inl, inr, ℕ, refl, sym, ◌∙◌, ap, subst, [], length, Option, Some, None, option_map, Result, Ok, Err, IfOk, true}
 use Rattle.pv_base.specs.Outside.{Text}
 use Rattle.pv_base.specs.declared.want.Memory.{Memory}
 use Rattle.ir_lex.specs.declared.token.ReadError.{ReadError}
@@ -19,128 +18,166 @@ use Rattle.code_laws.specs.Runs.{module_outcome}
 use Rattle.code_laws.specs.Reports.{module_refused}
 use Rattle.code_laws.proofs.Running.{outcome_same}
 use Rattle.code_laws.proofs.Reporting.{report_same, accepted_same}
-use Rattle.plain_commands.specs.Answers.{Answers, ReadsFile, IsQuiet, with_file, file_limit, refuses, too_long_line}
-use Rattle.plain_commands.specs.Commands.{RunsLoaded, ChecksLoaded, run_module, ran, status_of, accepted, answer_of, unless_fault, wanted_run, wanted_check}
-use Rattle.plain_commands.specs.Loading.{IsLoaded, refusal_by}
+use Rattle.pv_base.specs.Limits.{file_limit}
+use Rattle.plain_commands.specs.Answers.{IsReadFault, ReadsFile, refuses}
+use Rattle.plain_commands.specs.Texts.{Texts, Tells, Answers}
+use Rattle.plain_commands.specs.Commands.{RunsModule, RunsLoaded, ChecksLoaded, IsTaken, TellsRun, TellsCheck, RunReads, CheckReads, run_module, ran, status_of, accepted, answer_of, unless_fault, wanted_run, wanted_check}
+use Rattle.plain_commands.specs.Loading.{IsLoaded, refusal_by, refusal_of}
 use Rattle.plain_commands.specs.declared.answer.Answer.{Answer}
 use Rattle.plain_commands.specs.declared.loading.Loaded.{Loaded}
 use Rattle.plain_commands.specs.declared.loading.Loaded.TheVariants.{Accepted, Refused}
-use Rattle.plain_commands.proofs.FileLemmas.{wanted_refusal}
-
-not_longer : (text : Text) → length text ≤ file_limit → nat_lt file_limit (length text) ≡ false
-not_longer text bound = grind (arith, nat_lt)
-
--- what is wanted of a file that was read
-wanted_read : (content : Text → Option Text) (name text : Text) (next : Text → Option Answer) (a : Answer) (told : Option Text) → content name ≡ told
-    → length text ≤ file_limit → IfSome told (λ t. text ≡ t) → IfSome (next text) (λ w. a ≡ w) → IfSome (with_file content name next) (λ w. a ≡ w)
-wanted_read content name text next a None told bound is gives = rw told tt
-wanted_read content name text next a (Some t) told bound is gives = rw (told, sym is, not_longer text bound) gives
+use Rattle.plain_commands.proofs.FileLemmas.{with_short, with_long, some_text, long_text}
 
 -- ---- what a text was taken for
 
-answer_refused : (read : Result ModuleV ReadError) (next : ModuleV → Option Answer) (line : Text) → refusal_by read ≡ Some line → answer_of read next ≡ Some (refuses 3 line)
-answer_refused (Err e) next line is = let same : refused_module e ≡ line = cc in ap (λ (l : Text). Some (refuses 3 l)) same
+pub answer_refused : (read : Result ModuleV ReadError) (next : ModuleV → Answer) (line : Text) → refusal_by read ≡ Some line → answer_of read next ≡ refuses 3 line
+answer_refused (Err e) next line is = let same : refused_module e ≡ line = cc in ap (refuses 3) same
 answer_refused (Ok v) next line is = by_fault (first_fault v) is
   where
-    by_fault : (o : Option CheckError) → option_map (module_refused v) o ≡ Some line → unless_fault v o (next v) ≡ Some (refuses 3 line)
+    by_fault : (o : Option CheckError) → option_map (module_refused v) o ≡ Some line → unless_fault v o (next v) ≡ refuses 3 line
     by_fault None e = absurd cc
-    by_fault (Some f) e = let same : module_refused v f ≡ line = cc in ap (λ (l : Text). Some (refuses 3 l)) same
+    by_fault (Some f) e = let same : module_refused v f ≡ line = cc in ap (refuses 3) same
 
-answer_accepted : (read : Result ModuleV ReadError) (next : ModuleV → Option Answer) (v : ModuleV) → read ≡ Ok v → first_fault v ≡ None → answer_of read next ≡ next v
+pub answer_accepted : (read : Result ModuleV ReadError) (next : ModuleV → Answer) (v : ModuleV) → read ≡ Ok v → first_fault v ≡ None → answer_of read next ≡ next v
 answer_accepted read next v is none = rw (is, none) refl
+
+pub none_refused : (read : Result ModuleV ReadError) (v : ModuleV) → read ≡ Ok v → first_fault v ≡ None → refusal_by read ≡ None
+none_refused read v is none = rw (is, none) refl
+
+-- ---- the run of a module
+
+module _ (content : Text → Option Text) (input : Text) (budget : ℕ) (v : ModuleV) (before after : ℕ) where
+  -- an input that is not handed back
+  pub input_refused : (a : Answer) → ReadsFile (content input) file_limit input before after (Err a) → RunsModule content input budget v before after a
+  input_refused a (inl fault) = let t = some_text (content input) in record { text = t.text; told = t.is; is = inr fault }
+  input_refused a (inr long) =
+      let t = long_text file_limit (content input) long.2 in
+      record {
+        text = t.text;
+        told = t.is;
+        is = inl (long.0, long.1 ∙ sym (with_long file_limit t.text input (ran v (module_outcome v t.text budget)) t.longer));
+      }
+
+  -- an input that is run on
+  pub input_read : (text given : Text) (r : Result Answer Memory) → given ≡ text → ReadsFile (content input) file_limit input before after (Ok text)
+      → IfOk r (λ a. a ≡ ran v (module_outcome v given budget)) → IfOk r (RunsModule content input budget v before after)
+  input_read text given (Err e) same reads is = tt
+  input_read text given (Ok a) same reads is = record {
+    text = text;
+    told = reads.2;
+    is = inl (reads.0, is ∙ ap (λ (t : Text). ran v (module_outcome v t budget)) same ∙ sym (with_short file_limit text input (ran v (module_outcome v text budget)) reads.1));
+  }
 
 -- ---- run
 
+-- the texts of a run: that of the module, and one that the files tell of the input or any
+abbrev texts_of : (Text → Option Text) → Text → Text → Texts
+texts_of content input text = record { code = text; input = (some_text (content input)).text }
+
+-- what a run answers
+abbrev pub RunAnswers : (Text → Option Text) → Text → Text → ℕ → ℕ → ℕ → Answer → Type 0
+RunAnswers content code input budget before after a =
+    Answers (TellsRun content code input) (λ t. wanted_run t code input budget) (RunReads code input) before after a
+
+-- what a check answers
+abbrev pub CheckAnswers : (Text → Option Text) → Text → ℕ → ℕ → Answer → Type 0
+CheckAnswers content code before after a =
+    Answers (TellsCheck content code) (λ t. wanted_check t code) (CheckReads code) before after a
+
 module _ (content : Text → Option Text) (code input : Text) (budget : ℕ) where
-  run_wanted : (text : Text) (loaded : Loaded) (a : Answer) → IsLoaded text loaded → RunsLoaded content input budget loaded a
-      → IfSome (answer_of (read_of text) (run_module content input budget)) (λ w. a ≡ w)
-  run_wanted text (Accepted m) a held runs = rw (answer_accepted (read_of text) (run_module content input budget) (shown_module m) held.0 held.1) runs
-  run_wanted text (Refused line) a held runs = rw (answer_refused (read_of text) (run_module content input budget) line held) runs
+  -- a module that is not handed back
+  pub code_refused : (before after : ℕ) (a : Answer) → ReadsFile (content code) file_limit code before after (Err a) → RunAnswers content code input budget before after a
+  code_refused before after a (inl fault) =
+      let t = some_text (content code) in
+      record {
+        texts = texts_of content input t.text;
+        told = (t.is, (some_text (content input)).is);
+        is = inr (record { name = fault.name; may = inl fault.may; is = fault.is; rose = fault.rose });
+      }
+  code_refused before after a (inr long) =
+      let t = long_text file_limit (content code) long.2 in
+      record {
+        texts = texts_of content input t.text;
+        told = (t.is, (some_text (content input)).is);
+        is = inl (long.0, long.1 ∙ sym (with_long file_limit t.text code (answer_of (read_of t.text) (run_module (some_text (content input)).text input budget)) t.longer));
+      }
 
-  pub run_gives : (text : Text) (loaded : Loaded) (a : Answer) → length text ≤ file_limit → IfSome (content code) (λ t. text ≡ t) → IsLoaded text loaded
-      → RunsLoaded content input budget loaded a → IfSome (wanted_run content code input budget) (λ w. a ≡ w)
-  run_gives text loaded a bound is held runs =
-      wanted_read content code text (λ t. answer_of (read_of t) (run_module content input budget)) a (content code) refl bound is (run_wanted text loaded a held runs)
+  -- what is wanted of a module that is refused, and of one that is accepted
+  run_refused : (text given line : Text) → length text ≤ file_limit → refusal_of text ≡ Some line
+      → wanted_run (record { code = text; input = given }) code input budget ≡ refuses 3 line
+  run_refused text given line bound is =
+      with_short file_limit text code (answer_of (read_of text) (run_module given input budget)) bound ∙ answer_refused (read_of text) (run_module given input budget) line is
 
-  pub run_too_long : IfSome (content code) (λ t. file_limit < length t) → IfSome (wanted_run content code input budget) (λ w. refuses 8 (too_long_line code) ≡ w)
-  run_too_long long = wanted_refusal content code (λ t. answer_of (read_of t) (run_module content input budget)) long
+  run_accepted : (text given : Text) (v : ModuleV) → length text ≤ file_limit → read_of text ≡ Ok v → first_fault v ≡ None
+      → wanted_run (record { code = text; input = given }) code input budget ≡ run_module given input budget v
+  run_accepted text given v bound is none =
+      with_short file_limit text code (answer_of (read_of text) (run_module given input budget)) bound ∙ answer_accepted (read_of text) (run_module given input budget) v is none
+
+  -- a module that was loaded
+  run_loaded : (before after : ℕ) (text : Text) (loaded : Loaded) (a : Answer) → length text ≤ file_limit → Tells content code text → IsLoaded text loaded
+      → RunsLoaded content input budget loaded before after a → RunAnswers content code input budget before after a
+  run_loaded before after text (Refused line) a bound tells held runs = record {
+    texts = texts_of content input text;
+    told = (tells, (some_text (content input)).is);
+    is = inl (runs.0, runs.1 ∙ sym (run_refused text (some_text (content input)).text line bound held));
+  }
+  run_loaded before after text (Accepted m) a bound tells held runs =
+      let same = run_accepted text runs.text (shown_module m) bound held.0 held.1 in
+      record {
+        texts = record { code = text; input = runs.text };
+        told = (tells, runs.told);
+        is = elim runs.is [
+          | inl given ↦ inl (given.0, given.1 ∙ sym same)
+          | inr fault ↦ inr (record {
+            name = fault.name;
+            may = inr (fault.may, (bound, none_refused (read_of text) (shown_module m) held.0 held.1));
+            is = fault.is;
+            rose = fault.rose;
+          })
+        ];
+      }
+
+  -- the answer of a run, behind the read of the module
+  pub run_answered : (content' : Text → Option Text) (before mid after : ℕ) (text : Text) (loaded : Loaded) (r : Result Answer Memory)
+      → content' ≡ content → ReadsFile (content code) file_limit code before mid (Ok text) → IsLoaded text loaded
+      → IfOk r (RunsLoaded content' input budget loaded mid after) → IfOk r (RunAnswers content code input budget before after)
+  run_answered content' before mid after text loaded (Err e) same reads held runs = tt
+  run_answered content' before mid after text loaded (Ok a) same reads held runs =
+      run_loaded before after text loaded a reads.1 reads.2 held
+      (subst (λ (n : ℕ). RunsLoaded content input budget loaded n after a) reads.0
+      (subst (λ (files : Text → Option Text). RunsLoaded files input budget loaded mid after a) same runs))
 
 -- ---- check
 
-check_wanted : (text : Text) (loaded : Loaded) (a : Answer) → IsLoaded text loaded → ChecksLoaded loaded a → IfSome (answer_of (read_of text) (λ v. Some (accepted v))) (λ w. a ≡ w)
-check_wanted text (Accepted m) a held checks = rw (answer_accepted (read_of text) (λ v. Some (accepted v)) (shown_module m) held.0 held.1) checks
-check_wanted text (Refused line) a held checks = rw (answer_refused (read_of text) (λ v. Some (accepted v)) line held) checks
-
 module _ (content : Text → Option Text) (code : Text) where
-  pub check_gives : (text : Text) (loaded : Loaded) (a : Answer) → length text ≤ file_limit → IfSome (content code) (λ t. text ≡ t) → IsLoaded text loaded
-      → ChecksLoaded loaded a → IfSome (wanted_check content code) (λ w. a ≡ w)
-  check_gives text loaded a bound is held checks =
-      wanted_read content code text (λ t. answer_of (read_of t) (λ v. Some (accepted v))) a (content code) refl bound is (check_wanted text loaded a held checks)
+  -- a module that is not handed back
+  pub check_refused : (before after : ℕ) (a : Answer) → ReadsFile (content code) file_limit code before after (Err a) → CheckAnswers content code before after a
+  check_refused before after a (inl fault) =
+      let t = some_text (content code) in
+      record { texts = record { code = t.text; input = [] }; told = t.is; is = inr fault }
+  check_refused before after a (inr long) =
+      let t = long_text file_limit (content code) long.2 in
+      record {
+        texts = record { code = t.text; input = [] };
+        told = t.is;
+        is = inl (long.0, long.1 ∙ sym (with_long file_limit t.text code (answer_of (read_of t.text) accepted) t.longer));
+      }
 
-  pub check_too_long : IfSome (content code) (λ t. file_limit < length t) → IfSome (wanted_check content code) (λ w. refuses 8 (too_long_line code) ≡ w)
-  check_too_long long = wanted_refusal content code (λ t. answer_of (read_of t) (λ v. Some (accepted v))) long
+  -- a module that was loaded is answered what is wanted
+  check_wanted : (text : Text) (loaded : Loaded) (a : Answer) → IsLoaded text loaded → ChecksLoaded loaded a → a ≡ answer_of (read_of text) accepted
+  check_wanted text (Accepted m) a held checks = checks ∙ sym (answer_accepted (read_of text) accepted (shown_module m) held.0 held.1)
+  check_wanted text (Refused line) a held checks = checks ∙ sym (answer_refused (read_of text) accepted line held)
 
--- an answer that gives one thing gives another
-pub answers_so : (P Q : Answer → Type 0) (before after : ℕ) (a : Answer) → (P a → Q a) → Answers P before after a → Answers Q before after a
-answers_so P Q before after a so h = record {
-  status = h.status;
-  fault = h.fault;
-  told = h.told;
-  quiet = h.quiet;
-  gives = λ never. so (h.gives never);
-  named = h.named;
-}
-
--- ---- answers of calls
-
--- the answer of a run, behind the read of the module
-pub run_answered : (content content' : Text → Option Text) (code input : Text) (budget before mid after : ℕ) (text : Text) (loaded : Loaded) (r : Result Answer Memory)
-    → content' ≡ content → ReadsFile (content code) code before mid text None → IsLoaded text loaded
-    → IfOk r (λ a. Answers (RunsLoaded content' input budget loaded) mid after a)
-    → IfOk r (λ a. Answers (λ x. IfSome (wanted_run content code input budget) (λ w. x ≡ w)) before after a)
-run_answered content content' code input budget before mid after text loaded (Err e) same reads held answers = tt
-run_answered content content' code input budget before mid after text loaded (Ok a) same reads held answers =
-    let at : Answers (RunsLoaded content input budget loaded) before after a =
-    subst (λ (n : ℕ). Answers (RunsLoaded content input budget loaded) n after a) reads.0
-    (subst (λ (files : Text → Option Text). Answers (RunsLoaded files input budget loaded) mid after a) same answers) in
-    answers_so (RunsLoaded content input budget loaded) (λ x. IfSome (wanted_run content code input budget) (λ w. x ≡ w)) before after a
-    (λ runs. run_gives content code input budget text loaded a reads.1 reads.2 held runs) at
-
--- an answer that is made without a fault
-pub calm_answers : (Gives : Answer → Type 0) (before after : ℕ) (a : Answer) → after ≡ before → a.status < 5 → (IsQuiet a.status → a.out ≡ []) → Gives a → Answers Gives before after a
-calm_answers Gives before after a same status quiet gives = record {
-  status = inl (inl status);
-  fault = λ five. absurd (omega (arith, status));
-  told = λ less. absurd (omega (arith, less, same));
-  quiet = quiet;
-  gives = λ never. gives;
-  named = λ five. absurd (omega (arith, status));
-}
-
-not_quiet : IsQuiet 0 → ⊥
-not_quiet quiet = omega arith
-
-pub refusal_calm : (Gives : Answer → Type 0) (before after status : ℕ) (line : Text) (a : Answer) → after ≡ before → status < 5 → a ≡ refuses status line → Gives a → Answers Gives before after a
-refusal_calm Gives before after status line a same less is gives =
-    calm_answers Gives before after a same (subst (λ (x : Answer). x.status < 5) (sym is) less) (λ quiet. ap (λ (x : Answer). x.out) is) gives
-
-accepted_calm : (Gives : Answer → Type 0) (before after : ℕ) (v : ModuleV) (a : Answer) → after ≡ before → a ≡ accepted v → Gives a → Answers Gives before after a
-accepted_calm Gives before after v a same is gives =
-    let P : Answer → Type 0 = λ x. Gives x → Answers Gives before after x in
-    subst P (sym is) (calm_answers Gives before after (accepted v) same (omega arith) (λ quiet. absurd (not_quiet quiet))) gives
-
-check_calm : (Gives : Answer → Type 0) (before after : ℕ) (loaded : Loaded) (a : Answer) → after ≡ before → ChecksLoaded loaded a → Gives a → Answers Gives before after a
-check_calm Gives before after (Accepted m) a same checks gives = accepted_calm Gives before after (shown_module m) a same checks gives
-check_calm Gives before after (Refused line) a same checks gives = refusal_calm Gives before after 3 line a same (omega arith) checks gives
-
--- the answer of a check, behind the read of the module
-pub check_answered : (content : Text → Option Text) (code : Text) (before after : ℕ) (text : Text) (loaded : Loaded) (r : Result Answer Memory)
-    → ReadsFile (content code) code before after text None → IsLoaded text loaded → IfOk r (ChecksLoaded loaded)
-    → IfOk r (λ a. Answers (λ x. IfSome (wanted_check content code) (λ w. x ≡ w)) before after a)
-check_answered content code before after text loaded (Err e) reads held checks = tt
-check_answered content code before after text loaded (Ok a) reads held checks =
-    check_calm (λ x. IfSome (wanted_check content code) (λ w. x ≡ w)) before after loaded a reads.0 checks
-    (check_gives content code text loaded a reads.1 reads.2 held checks)
+  -- the answer of a check, behind the read of the module
+  pub check_answered : (before after : ℕ) (text : Text) (loaded : Loaded) (r : Result Answer Memory)
+      → ReadsFile (content code) file_limit code before after (Ok text) → IsLoaded text loaded
+      → IfOk r (ChecksLoaded loaded) → IfOk r (CheckAnswers content code before after)
+  check_answered before after text loaded (Err e) reads held checks = tt
+  check_answered before after text loaded (Ok a) reads held checks = record {
+    texts = record { code = text; input = [] };
+    told = reads.2;
+    is = inl (reads.0, check_wanted text loaded a held checks ∙ sym (with_short file_limit text code (answer_of (read_of text) accepted) reads.1));
+  }
 
 -- the answer to the check of an accepted module
 pub checks_is : (loaded : Loaded) (m n : Items) (out report : Text) → loaded ≡ Accepted m → n ≡ m → out ≡ accepted_text n → report ≡ []

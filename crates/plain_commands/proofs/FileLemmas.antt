@@ -1,41 +1,46 @@
--- Answers that stand on the reads of files.
-use Rattle.std.proofs.Common.{◌≡◌, ◌≢◌, ◌<◌, ◌⊎◌, inl, inr, ℕ, List, [], Option, Some, None, IfSome, length, refl, arith, sym, ap, subst, ◌∙◌}
+-- Answers that stand on the texts of files.
+use Rattle.std.proofs.Common.{◌≡◌, ◌<◌, ◌≤◌, ◌+◌, ℕ, [], Option, None, Some, IfSome, length, replicate, refl, arith, Bool, true, false, nat_lt, if◌then◌else◌}
 use Rattle.std.proofs.lemmas.Bool.{lt-ltb}
-use Rattle.pv_base.specs.Outside.{Text, Rose}
-use Rattle.plain_commands.specs.Answers.{Answers, IsFault, ReadsFile, refuses, fault_line, too_long_line, with_file, file_limit, IsAnswer, IsQuiet}
+use Rattle.std.proofs.lemmas.List.{length-replicate}
+use Rattle.pv_base.specs.Outside.{Text}
+use Rattle.plain_commands.specs.Answers.{refuses, too_long_line, with_file}
 use Rattle.plain_commands.specs.declared.answer.Answer.{Answer}
 
-wanted_too_long : (content : Text → Option Text) (name : Text) (next : Text → Option Answer) (told : Option Text) → content name ≡ told
-    → IfSome told (λ t. file_limit < length t) → IfSome (with_file content name next) (λ w. refuses 8 (too_long_line name) ≡ w)
-wanted_too_long content name next None is long = rw is tt
-wanted_too_long content name next (Some t) is long = rw (is, lt-ltb file_limit (length t) long) refl
+not_longer : (limit : ℕ) (text : Text) → length text ≤ limit → nat_lt limit (length text) ≡ false
+not_longer limit text bound = grind (arith, nat_lt)
 
--- a refusal of the file is the fault of its read, or what the file is to be answered
-pub refusal_answers : (content : Text → Option Text) (name : Text) (Gives : Answer → Type 0)
-    → (IfSome (content name) (λ t. file_limit < length t) → Gives (refuses 8 (too_long_line name)))
-    → (before after : ℕ) (text : Text) (a : Answer) → ReadsFile (content name) name before after text (Some a) → Answers Gives before after a
-refusal_answers content name Gives long_gives before after text a (inl fault) =
-    let P : Answer → Type 0 = λ x. Answers Gives before after x in
-    subst P (sym fault.is) (record {
-      status = inr refl;
-      fault = λ _. fault.rose;
-      told = λ _. refl;
-      quiet = λ _. refl;
-      gives = λ never. absurd (never refl);
-      named = λ _. (name, refl);
-    })
-refusal_answers content name Gives long_gives before after text a (inr long) =
-    let P : Answer → Type 0 = λ x. Answers Gives before after x in
-    subst P (sym long.1) (record {
-      status = inl (inr refl);
-      fault = λ five. absurd (omega arith);
-      told = λ less. absurd (omega (arith, long.0));
-      quiet = λ _. refl;
-      gives = λ _. long_gives long.2;
-      named = λ five. absurd (omega arith);
-    })
+-- a text within the limit is answered as it is
+pub with_short : (limit : ℕ) (text name : Text) (next : Answer) → length text ≤ limit → with_file limit text name next ≡ next
+with_short limit text name next bound = rw (not_longer limit text bound) refl
 
--- the same where what follows the read tells what is wanted
-pub wanted_refusal : (content : Text → Option Text) (name : Text) (next : Text → Option Answer)
-    → IfSome (content name) (λ t. file_limit < length t) → IfSome (with_file content name next) (λ w. refuses 8 (too_long_line name) ≡ w)
-wanted_refusal content name next = wanted_too_long content name next (content name) refl
+-- a text that is too long is refused
+pub with_long : (limit : ℕ) (text name : Text) (next : Answer) → limit < length text → with_file limit text name next ≡ refuses 8 (too_long_line name)
+with_long limit text name next long = rw (lt-ltb limit (length text) long) refl
+
+-- what holds of the refusal and of what follows holds of the answer
+pub with_either : (P : Answer → Type 0) (limit : ℕ) (text name : Text) (next : Answer) → P (refuses 8 (too_long_line name)) → P next → P (with_file limit text name next)
+with_either P limit text name next refusal follows = chosen (nat_lt limit (length text))
+  where
+    chosen : (b : Bool) → P (if b then refuses 8 (too_long_line name) else next)
+    chosen true = refusal
+    chosen false = follows
+
+-- a text that is what is told
+pub record IsTold (told : Option Text) : Type 0 where
+  pub text : Text
+  pub is : IfSome told (λ t. text ≡ t)
+
+-- there is one; it may be any where nothing is told
+pub some_text : (told : Option Text) → IsTold told
+some_text None = record { text = []; is = tt }
+some_text (Some t) = record { text = t; is = refl }
+
+-- a text that is what is told, and longer than the limit
+pub record IsLong (limit : ℕ) (told : Option Text) : Type 0 where
+  pub text : Text
+  pub is : IfSome told (λ t. text ≡ t)
+  pub longer : limit < length text
+
+pub long_text : (limit : ℕ) (told : Option Text) → IfSome told (λ t. limit < length t) → IsLong limit told
+long_text limit None long = record { text = replicate (limit + 1) 0; is = tt; longer = omega (arith, length-replicate {A = ℕ} (limit + 1) 0) }
+long_text limit (Some t) long = record { text = t; is = refl; longer = long }

@@ -1,3 +1,4 @@
 pub mod FileLemmas
 pub mod LoadLemmas
 pub mod CommandLemmas
+pub mod WantedLemmas

@@ -1,14 +1,17 @@
 //! The commands, up to their answers.
-ghost use Rattle.std.specs.Prelude.{◌≡◌, ◌≢◌, ◌≤◌, ◌++◌, codes, None, IfOk, IfSome};
+ghost use Rattle.std.specs.Prelude.{◌≡◌, ◌≤◌, ◌++◌, codes, IfOk};
 ghost use Rattle.ir_tree.specs.Written.{shown_module};
 ghost use Rattle.code_laws.specs.Runs.{module_outcome};
-ghost use Rattle.plain_commands.specs.Answers.{Answers, ReadsFile, refuses};
-ghost use Rattle.plain_commands.specs.Commands.{RunsLoaded, ChecksLoaded, run_module, ran, status_of, wanted_run, wanted_check};
+ghost use Rattle.plain_commands.specs.Answers.{ReadsFile, refuses};
+ghost use Rattle.plain_commands.specs.Texts.{Answers};
+ghost use Rattle.plain_commands.specs.Commands.{RunsModule, RunsLoaded, ChecksLoaded, TellsRun, TellsCheck, RunReads, CheckReads, ran, status_of, wanted_run, wanted_check};
 
-use crate::answer::{Answer, refusal};
-use crate::loading::{Loaded, load};
+use crate::answer::{Answer, refuse};
+use crate::loading::{Loaded, load, tell_names};
+use crate::status::{ENDED, READ_FAULT, REFUSED, SPENT, TOO_LONG, TRAPPED};
 use checked_code::program::Program;
 use pv_base::bytes::Bytes;
+use pv_base::limits::FILE_LIMIT;
 use pv_base::outside::{FileEnd, Files};
 use pv_base::want::Memory;
 use run_report::refusals::accepted_text;
@@ -17,50 +20,38 @@ use seq_machine::state::End;
 use seq_run::run::run;
 use std::alloc::Global;
 
-/// The most bytes of a module, a profile or an input.
-pub const FILE_LIMIT: usize = 4_194_304;
-
-const ENDED: u8 = 0;
-
-const READ_FAULT: u8 = 5;
-
-const TOO_LONG: u8 = 8;
-
 /// A refusal that names a file.
 fn refuse_file(alloc: Global, status: u8, what: &[u8], name: &str) -> Result<Answer, Memory>
     ensures { IfOk result (λ a. a ≡ refuses status (what.now ++ name.now ++ codes "\n")) }
 {
-    let mut report = Bytes::from_slice(alloc, what)?;
-    report.append(name.as_bytes())?;
-    report.append(b"\n")?;
-    Ok(Answer {
-        status,
-        out: Bytes::new(alloc),
-        report,
-    })
+    let mut line = Bytes::from_slice(alloc, what)?;
+    line.append(name.as_bytes())?;
+    line.append(b"\n")?;
+    Ok(refuse(alloc, status, line))
 }
 
-/// The whole file, or the refusal.
+/// The whole text of a file of at most so many bytes, or what is answered in its place.
 fn read_file<F: Files>(
     alloc: Global,
     files: &mut F,
     name: &str,
-    to: &mut Bytes,
-) -> Result<Option<Answer>, Memory>
+    limit: usize,
+) -> Result<Result<Bytes, Answer>, Memory>
     ensures content { F.content files.new ≡ F.content files.old }
     ensures later { F.faults files.old ≤ F.faults files.new }
-    ensures ends { IfOk result (λ o. ReadsFile (F.content files.old name.now) name.now (F.faults files.old) (F.faults files.new) to.new o) }
+    ensures ends { IfOk result (ReadsFile (F.content files.old name.now) limit name.now (F.faults files.old) (F.faults files.new)) }
 {
-    match files.read(name, FILE_LIMIT, to) {
-        Ok(()) => Ok(None),
+    let mut text = Bytes::new(alloc);
+    match files.read(name, limit, &mut text) {
+        Ok(()) => Ok(Ok(text)),
         Err(FileEnd::Memory) => Err(Memory),
         Err(FileEnd::Failed) => {
             let answer = refuse_file(alloc, READ_FAULT, b"fault reading ", name)?;
-            Ok(Some(answer))
+            Ok(Err(answer))
         }
         Err(FileEnd::TooLong) => {
             let answer = refuse_file(alloc, TOO_LONG, b"too long ", name)?;
-            Ok(Some(answer))
+            Ok(Err(answer))
         }
     }
 }
@@ -69,9 +60,9 @@ fn status_of(end: End) -> u8
     ensures { result ≡ status_of end }
 {
     match end {
-        End::Ended(_) => 0,
-        End::Trapped(_, _) => 1,
-        End::Spent => 2,
+        End::Ended(_) => ENDED,
+        End::Trapped(_, _) => TRAPPED,
+        End::Spent => SPENT,
     }
 }
 
@@ -79,7 +70,7 @@ fn status_of(end: End) -> u8
 fn run_answer(program: &Program, input: &[u8], budget: u64) -> Result<Answer, Memory>
     ensures { IfOk result (λ a. a ≡ ran (shown_module program.now) (module_outcome (shown_module program.now) input.now budget)) }
 {
-    program.module().names().is_table();
+    tell_names(program.module());
     let outcome = run(program, input, budget)?;
     let report = report_text(program.alloc(), program.module(), &outcome)?;
     Ok(Answer {
@@ -99,15 +90,13 @@ fn run_program<F: Files>(
 ) -> Result<Answer, Memory>
     ensures content { F.content files.new ≡ F.content files.old }
     ensures later { F.faults files.old ≤ F.faults files.new }
-    ensures answers { IfOk result (λ a. Answers (λ a. IfSome (run_module (F.content files.old) input.now budget (shown_module program.now)) (λ w. a ≡ w)) (F.faults files.old) (F.faults files.new) a) }
-    ensures no_usage { IfOk result (λ a. a.status ≢ 4) }
+    ensures answers { IfOk result (RunsModule (F.content files.old) input.now budget (shown_module program.now) (F.faults files.old) (F.faults files.new)) }
 {
-    let mut given = Bytes::new(alloc);
-    match read_file(alloc, files, input, &mut given)? {
-        None => {}
-        Some(refusal) => return Ok(refusal),
-    }
-    run_answer(program, given.as_slice(), budget)
+    let text = match read_file(alloc, files, input, FILE_LIMIT)? {
+        Ok(text) => text,
+        Err(answer) => return Ok(answer),
+    };
+    run_answer(program, text.as_slice(), budget)
 }
 
 /// Runs what a module's text was taken for.
@@ -120,11 +109,10 @@ fn run_loaded<F: Files>(
 ) -> Result<Answer, Memory>
     ensures content { F.content files.new ≡ F.content files.old }
     ensures later { F.faults files.old ≤ F.faults files.new }
-    ensures answers { IfOk result (λ a. Answers (RunsLoaded (F.content files.old) input.now budget loaded) (F.faults files.old) (F.faults files.new) a) }
-    ensures no_usage { IfOk result (λ a. a.status ≢ 4) }
+    ensures answers { IfOk result (RunsLoaded (F.content files.old) input.now budget loaded (F.faults files.old) (F.faults files.new)) }
 {
     match loaded {
-        Loaded::Refused(line) => Ok(refusal(alloc, line)),
+        Loaded::Refused(line) => Ok(refuse(alloc, REFUSED, line)),
         Loaded::Accepted(checked) => {
             let program = Program::new(alloc, checked)?;
             run_program(alloc, files, &program, input, budget)
@@ -142,14 +130,12 @@ pub fn run_command<F: Files>(
 ) -> Result<Answer, Memory>
     ensures content { F.content files.new ≡ F.content files.old }
     ensures later { F.faults files.old ≤ F.faults files.new }
-    ensures answers { IfOk result (λ a. Answers (λ a. IfSome (wanted_run (F.content files.old) code.now input.now budget) (λ w. a ≡ w)) (F.faults files.old) (F.faults files.new) a) }
-    ensures no_usage { IfOk result (λ a. a.status ≢ 4) }
+    ensures answers { IfOk result (Answers (TellsRun (F.content files.old) code.now input.now) (λ t. wanted_run t code.now input.now budget) (RunReads code.now input.now) (F.faults files.old) (F.faults files.new)) }
 {
-    let mut text = Bytes::new(alloc);
-    match read_file(alloc, files, code, &mut text)? {
-        None => {}
-        Some(refusal) => return Ok(refusal),
-    }
+    let text = match read_file(alloc, files, code, FILE_LIMIT)? {
+        Ok(text) => text,
+        Err(answer) => return Ok(answer),
+    };
     let loaded = load(alloc, text.as_slice())?;
     run_loaded(alloc, files, loaded, input, budget)
 }
@@ -159,7 +145,7 @@ fn check_loaded(alloc: Global, loaded: Loaded) -> Result<Answer, Memory>
     ensures { IfOk result (ChecksLoaded loaded) }
 {
     match loaded {
-        Loaded::Refused(line) => Ok(refusal(alloc, line)),
+        Loaded::Refused(line) => Ok(refuse(alloc, REFUSED, line)),
         Loaded::Accepted(checked) => {
             let out = accepted_text(alloc, checked.module())?;
             Ok(Answer {
@@ -175,14 +161,12 @@ fn check_loaded(alloc: Global, loaded: Loaded) -> Result<Answer, Memory>
 pub fn check_command<F: Files>(alloc: Global, files: &mut F, code: &str) -> Result<Answer, Memory>
     ensures content { F.content files.new ≡ F.content files.old }
     ensures later { F.faults files.old ≤ F.faults files.new }
-    ensures answers { IfOk result (λ a. Answers (λ a. IfSome (wanted_check (F.content files.old) code.now) (λ w. a ≡ w)) (F.faults files.old) (F.faults files.new) a) }
-    ensures no_usage { IfOk result (λ a. a.status ≢ 4) }
+    ensures answers { IfOk result (Answers (TellsCheck (F.content files.old) code.now) (λ t. wanted_check t code.now) (CheckReads code.now) (F.faults files.old) (F.faults files.new)) }
 {
-    let mut text = Bytes::new(alloc);
-    match read_file(alloc, files, code, &mut text)? {
-        None => {}
-        Some(refusal) => return Ok(refusal),
-    }
+    let text = match read_file(alloc, files, code, FILE_LIMIT)? {
+        Ok(text) => text,
+        Err(answer) => return Ok(answer),
+    };
     let loaded = load(alloc, text.as_slice())?;
     check_loaded(alloc, loaded)
 }

@@ -1,6 +1,7 @@
 //! From the text of a module to a module that can be run.
 ghost use Rattle.std.specs.Prelude.{◌<◌, ◌^◌, length, IfOk};
 ghost use Rattle.ir_rules.specs.Reading.{IsWellFormed};
+ghost use Rattle.ir_tree.specs.Table.{IsTable};
 ghost use Rattle.plain_commands.specs.Loading.{IsLoaded, IsJudged};
 
 use ir_checker::faults::find_fault;
@@ -18,6 +19,13 @@ pub enum Loaded {
     Accepted(Checked),
     /// The line that says why it is refused.
     Refused(Bytes),
+}
+
+/// No name of a module has two numbers. The call does nothing: it tells this of a module at hand.
+pub fn tell_names(tree: &Module)
+    ensures { IsTable tree.now.names }
+{
+    tree.names().is_table();
 }
 
 /// Tests the module that was read of a text.
@@ -39,7 +47,7 @@ pub fn load(alloc: Global, text: &[u8]) -> Result<Loaded, Memory>
 {
     match read_module(alloc, text) {
         Ok(tree) => {
-            tree.names().is_table();
+            tell_names(&tree);
             judge(alloc, tree)
         }
         Err(TextEnd::Memory) => Err(Memory),

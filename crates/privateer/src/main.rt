@@ -1,6 +1,7 @@
 //! The program: the host's files and streams, the top call, and its status.
 #![tactic(auto)]
 
+use plain_commands::status::MEMORY;
 use privateer_core::top::plain_top;
 use pv_base::bytes::Bytes;
 use pv_base::host::{HostFiles, HostSink};
@@ -9,9 +10,6 @@ use pv_base::want::Memory;
 use std::alloc::Global;
 use std::env::Args;
 use std::process::ExitCode;
-
-/// The status where memory is refused before the top call.
-const MEMORY: u8 = 7;
 
 /// The words of the command line. Where the runtime refuses the arguments as a whole, there are none.
 fn word_list(alloc: Global, args: Option<Args>) -> Result<List<Bytes>, Memory> {

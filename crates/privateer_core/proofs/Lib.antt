@@ -1,2 +1,4 @@
 pub mod RequestLemmas
+pub mod WantedLemmas
 pub mod DeliverLemmas
+pub mod TopLemmas

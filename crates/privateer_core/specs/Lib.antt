@@ -1,2 +1,4 @@
 pub mod Delivering
 pub mod Requests
+pub mod Ends
+pub mod Laws

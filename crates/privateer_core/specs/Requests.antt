@@ -1,9 +1,10 @@
 -- What is answered to what words ask.
-use Rattle.std.specs.Prelude.{Option, Some, None, IfSome, ⊤}
+use Rattle.std.specs.Prelude.{ℕ, Option, [], ⊤}
 use Rattle.pv_base.specs.Outside.{Text}
 use Rattle.command_words.specs.Requests.{Asked, usage, refused, lacking, run, check}
 use Rattle.plain_commands.specs.Answers.{refuses}
-use Rattle.plain_commands.specs.Commands.{wanted_run, wanted_check}
+use Rattle.plain_commands.specs.Texts.{Texts, Answers}
+use Rattle.plain_commands.specs.Commands.{wanted_run, wanted_check, TellsRun, TellsCheck, RunReads, CheckReads}
 use Rattle.plain_commands.specs.declared.answer.Answer.{Answer}
 
 -- words that are refused
@@ -12,14 +13,28 @@ IsUsage (usage line) = ⊤
 IsUsage refused = ⊤
 IsUsage _ = ⊥
 
--- What the words and the contents of the files determine, where these are told; `clap` refuses words with a text of its own.
-abbrev pub wanted_of : (Text → Option Text) → Text → Asked → Option Answer
-wanted_of content told (usage line) = Some (refuses 4 line)
-wanted_of content told refused = Some (refuses 4 told)
-wanted_of content told lacking = None
-wanted_of content told (run code input budget) = wanted_run content code input budget
-wanted_of content told (check code) = wanted_check content code
+-- What the texts determine, and the words with a text by which `clap` refuses some. What lacks a word is answered by nothing,
+-- but for want of memory.
+abbrev pub wanted_of : Texts → Text → Asked → Answer
+wanted_of texts help (usage line) = refuses 4 line
+wanted_of texts help refused = refuses 4 help
+wanted_of texts help lacking = record { status = 0; out = []; report = [] }
+wanted_of texts help (run code input budget) = wanted_run texts code input budget
+wanted_of texts help (check code) = wanted_check texts code
 
--- what is to be answered, where that is told, meets this
-abbrev pub Wanted : (Text → Option Text) → Asked → (Answer → Type 0) → Type 0
-Wanted content asked P = (told : Text) × IfSome (wanted_of content told asked) P
+-- the texts are what the files tell of the names that the words give
+abbrev pub TellsTexts : (Text → Option Text) → Asked → Texts → Type 0
+TellsTexts content (run code input budget) texts = TellsRun content code input texts
+TellsTexts content (check code) texts = TellsCheck content code texts
+TellsTexts content _ texts = ⊤
+
+-- A read of this name may fail: it is MODULE's, or INPUT's where the module is accepted.
+abbrev pub FaultAt : Asked → Texts → Text → Type 0
+FaultAt (run code input budget) texts name = RunReads code input texts name
+FaultAt (check code) texts name = CheckReads code texts name
+FaultAt _ texts name = ⊥
+
+-- what is answered to words, with a text of `clap`
+pub record AnswersWords (content : Text → Option Text) (asked : Asked) (before after : ℕ) (a : Answer) : Type 0 where
+  pub help : Text
+  pub answers : Answers (TellsTexts content asked) (λ t. wanted_of t help asked) (FaultAt asked) before after a

@@ -1,41 +1,38 @@
 //! What is answered to the words.
-ghost use Rattle.std.specs.Prelude.{◌≡◌, ◌≤◌, ◌↔◌, IfOk};
+ghost use Rattle.std.specs.Prelude.{◌≡◌, ◌≤◌, IfOk};
 ghost use Rattle.command_words.specs.Requests.{asked_of, asks, IsAnswered};
-ghost use Rattle.plain_commands.specs.Answers.{Answers};
-ghost use Rattle.privateer_core.specs.Requests.{Wanted, IsUsage};
+ghost use Rattle.privateer_core.specs.Requests.{AnswersWords};
 
 use command_words::request::{Request, read_request};
 use plain_commands::answer::{Answer, refuse};
 use plain_commands::commands::{check_command, run_command};
+use plain_commands::status::USAGE;
 use pv_base::bytes::Bytes;
 use pv_base::list::List;
 use pv_base::outside::Files;
 use pv_base::want::Memory;
 use std::alloc::Global;
 
-const USAGE: u8 = 4;
-
 /// What a request is answered.
 #[tactic(auto, using(crate::proofs::RequestLemmas::run_asked, crate::proofs::RequestLemmas::check_asked))]
 fn answer_request<F: Files>(
     alloc: Global,
     files: &mut F,
-    request: &Request,
+    request: Request,
 ) -> Result<Answer, Memory>
     ensures content { F.content files.new ≡ F.content files.old }
     ensures later { F.faults files.old ≤ F.faults files.new }
-    ensures answers { IfOk result (λ a. Answers (λ a. Wanted (F.content files.old) (asks request.now) (λ w. a ≡ w)) (F.faults files.old) (F.faults files.new) a) }
-    ensures usage { IfOk result (λ a. (a.status ≡ 4) ↔ IsUsage (asks request.now)) }
-    ensures answered { IsAnswered (asks request.now) }
+    ensures answers { IfOk result (AnswersWords (F.content files.old) (asks request) (F.faults files.old) (F.faults files.new)) }
+    ensures answered { IsAnswered (asks request) }
 {
     match request {
-        Request::Usage { line } => refuse(alloc, USAGE, line.as_slice()),
-        Request::Refused { text } => refuse(alloc, USAGE, text.as_slice()),
+        Request::Usage { line } => Ok(refuse(alloc, USAGE, line)),
+        Request::Refused { text } => Ok(refuse(alloc, USAGE, text)),
         Request::Run {
             code,
             input,
             budget,
-        } => run_command(alloc, files, code.as_str(), input.as_str(), *budget),
+        } => run_command(alloc, files, code.as_str(), input.as_str(), budget),
         Request::Check { code } => check_command(alloc, files, code.as_str()),
     }
 }
@@ -44,10 +41,9 @@ fn answer_request<F: Files>(
 pub fn answer<F: Files>(alloc: Global, words: &List<Bytes>, files: &mut F) -> Result<Answer, Memory>
     ensures content { F.content files.new ≡ F.content files.old }
     ensures later { F.faults files.old ≤ F.faults files.new }
-    ensures answers { IfOk result (λ a. Answers (λ a. Wanted (F.content files.old) (asked_of words.now) (λ w. a ≡ w)) (F.faults files.old) (F.faults files.new) a) }
-    ensures usage { IfOk result (λ a. (a.status ≡ 4) ↔ IsUsage (asked_of words.now)) }
+    ensures answers { IfOk result (AnswersWords (F.content files.old) (asked_of words.now) (F.faults files.old) (F.faults files.new)) }
     ensures answered { IfOk result (λ a. IsAnswered (asked_of words.now)) }
 {
     let request = read_request(alloc, words.as_slice())?;
-    answer_request(alloc, files, &request)
+    answer_request(alloc, files, request)
 }

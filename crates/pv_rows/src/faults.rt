@@ -2,8 +2,8 @@
 use crate::calls::{check, joined, run, turning};
 use crate::modules::{COUNT_ITEMS, TABLE, TABLE_ITEMS};
 use ir_reader::whole::read_module;
-use plain_commands::commands::FILE_LIMIT;
 use pv_base::bytes::Bytes;
+use pv_base::limits::FILE_LIMIT;
 use pv_base::want::Memory;
 use rule_tests::meets::meets_rules;
 use std::alloc::Global;

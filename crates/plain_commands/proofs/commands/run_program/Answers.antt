@@ -1,13 +1,13 @@
-use Rattle.std.proofs.Common.{Some}
 use Rattle.ir_tree.specs.Written.{shown_module}
-use Rattle.code_laws.specs.Runs.{module_outcome}
-use Rattle.plain_commands.specs.Commands.{ran}
-use Rattle.plain_commands.proofs.FileLemmas.{refusal_answers, wanted_refusal}
+use Rattle.plain_commands.proofs.CommandLemmas.{input_refused, input_read}
 use Rattle.plain_commands.proofs.commands.run_program.Goals as goal
 
-pub returns-in-Some-clause-answers : goal.returns-in-Some-clause-answers
-returns-in-Some-clause-answers g c =
-    let v = shown_module c.args.program.now in
-    refusal_answers (g.F.Files.content c.args.files.now) c.args.input.now _
-    (wanted_refusal (g.F.Files.content c.args.files.now) c.args.input.now (λ text. Some (ran v (module_outcome v text c.args.budget)))) _ _ c.read_file.new.to c.in-Some.refusal
-    (rw c.in-Some.is at c.in_ok-read_file.ensures.ends)
+pub returns-in-Err-clause-answers : goal.returns-in-Err-clause-answers
+returns-in-Err-clause-answers g c =
+    input_refused (g.F.Files.content c.args.files.now) c.args.input.now c.args.budget (shown_module c.args.program.now) _ _ c.in-Err.answer
+    (rw c.in-Err.is at c.in_ok-text.ensures.ends)
+
+pub returns-clause-answers : goal.returns-clause-answers
+returns-clause-answers g c =
+    input_read (g.F.Files.content c.args.files.now) c.args.input.now c.args.budget (shown_module c.args.program.now) _ _ c.in-Ok.text c.as_slice.result.now _
+    c.as_slice.ensures (rw c.in-Ok.is at c.in_ok-text.ensures.ends) c.run_answer.ensures

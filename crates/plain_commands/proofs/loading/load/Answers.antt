@@ -4,7 +4,7 @@ use Rattle.plain_commands.proofs.loading.load.Goals as goal
 
 pub judge-requires : goal.judge-requires
 judge-requires c =
-    read_well c.args.text.now c.in-Ok.tree c.requires (rw c.names.ensures at c.is_table.ensures) c.in-Ok.ensures.reading c.in-Ok.ensures.stays
+    read_well c.args.text.now c.in-Ok.tree c.requires c.tell_names.ensures c.in-Ok.ensures.reading c.in-Ok.ensures.stays
 
 pub returns-in-Ok : goal.returns-in-Ok
 returns-in-Ok c = judged_so c.args.text.now c.in-Ok.tree c.judge.result c.in-Ok.ensures.reading c.judge.ensures
