@@ -1,7 +1,7 @@
 -- What follows from how the top call ends.
 use Rattle.std.proofs.Common.{◌≡◌, ◌≢◌, ◌<◌, ◌≤◌, ◌⊎◌, inl, inr, ℕ, refl, sym, ◌∙◌, ap, subst, [], Option, arith}
 use Rattle.pv_base.specs.Outside.{Text, Rose, AppendsFront, appended}
-use Rattle.command_words.specs.Requests.{Asked, usage, refused, lacking, run, check}
+use Rattle.command_words.specs.Requests.{Asked, usage, refused, lacking, run, check, IsAnswered}
 use Rattle.plain_commands.specs.Answers.{IsAnswer, IsQuiet, IsGiven, IsReadFault, fault_line, too_long_line}
 use Rattle.plain_commands.specs.Texts.{Texts}
 use Rattle.plain_commands.specs.declared.answer.Answer.{Answer}

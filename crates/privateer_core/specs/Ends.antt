@@ -1,7 +1,7 @@
 -- How the top call ends, as it is seen of the files and the sinks.
 use Rattle.std.specs.Prelude.{◌≡◌, ◌≢◌, ◌≤◌, ◌⊎◌, ℕ, Option}
 use Rattle.pv_base.specs.Outside.{Text}
-use Rattle.command_words.specs.Requests.{Asked}
+use Rattle.command_words.specs.Requests.{Asked, IsAnswered}
 use Rattle.plain_commands.specs.Answers.{IsGiven}
 use Rattle.plain_commands.specs.Texts.{Texts}
 use Rattle.plain_commands.specs.declared.answer.Answer.{Answer}

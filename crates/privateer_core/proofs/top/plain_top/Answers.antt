@@ -3,9 +3,9 @@ use Rattle.command_words.specs.Requests.{asked_of}
 use Rattle.privateer_core.proofs.TopLemmas.{ends_given, ends_without}
 use Rattle.privateer_core.proofs.top.plain_top.Goals as goal
 
-pub returns-in-Ok-clause-ends : goal.returns-in-Ok-clause-ends
-returns-in-Ok-clause-ends g c =
+pub returns-in-Ok : goal.returns-in-Ok
+returns-in-Ok g c =
     ends_given (asked_of c.args.words.now) _ _ c.deliver.result c.in-Ok.a c.in-Ok.ensures.answers c.deliver.ensures c.in-Ok.ensures.answered c.in-Ok.ensures.content c.in-Ok.ensures.later
 
-pub returns-in-Err-clause-ends : goal.returns-in-Err-clause-ends
-returns-in-Err-clause-ends g c = ends_without (asked_of c.args.words.now) _ _ refl refl c.answer.ensures.content c.answer.ensures.later
+pub returns-in-Err : goal.returns-in-Err
+returns-in-Err g c = ends_without (asked_of c.args.words.now) _ _ refl refl c.answer.ensures.content c.answer.ensures.later
