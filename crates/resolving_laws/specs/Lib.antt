@@ -1,0 +1,5 @@
+pub mod Looking
+pub mod Constants
+pub mod Resolved
+pub mod Places
+pub mod Laws
