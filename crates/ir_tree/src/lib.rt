@@ -1,4 +1,5 @@
-//! The trees of a module: names, types and constants by number, instructions, items, and the layout of types.
+//! The trees of a module: names, types and constants by number, instructions, items, and the layout of types; and the small
+//! parts of a plan that stands beside it.
 #![tactic(auto)]
 
 pub mod fields;
@@ -7,5 +8,7 @@ pub mod items;
 pub mod layout;
 pub mod layouts;
 pub mod nodes;
+pub mod plans;
+pub mod shared;
 pub mod table;
 pub mod whole;
