@@ -1,0 +1,10 @@
+pub mod Naming
+pub mod Slots
+pub mod Triples
+pub mod Regions
+pub mod Phis
+pub mod Tests
+pub mod Heaps
+pub mod Plans
+pub mod Lines
+pub mod Laws
