@@ -1,0 +1,35 @@
+-- The worked plans, computed.
+use Rattle.std.proofs.Common.{refl}
+use Rattle.ir_rules.specs.Forms.{is_phi, result_of, uses, targets}
+use Rattle.ir_rules.specs.Same.{same_constant}
+use Rattle.loop_plan.specs.Plans.{region_of, loop_plan, plan_of}
+use Rattle.worked_plans.specs.Plans.{CounterIsPrivate, CounterIsReduction, CounterWithoutTest, CounterWithoutPhi, CounterFlows, CounterUnknown, SumIsReduced}
+
+pub counter_is_private : CounterIsPrivate
+unfolding CounterIsPrivate plan_of loop_plan region_of is_phi result_of uses targets same_constant
+counter_is_private = refl
+
+pub counter_is_reduction : CounterIsReduction
+unfolding CounterIsReduction plan_of loop_plan region_of is_phi result_of uses targets same_constant
+counter_is_reduction = refl
+
+pub counter_without_test : CounterWithoutTest
+unfolding CounterWithoutTest plan_of loop_plan region_of is_phi result_of uses targets same_constant
+counter_without_test = refl
+
+pub counter_without_phi : CounterWithoutPhi
+unfolding CounterWithoutPhi plan_of loop_plan region_of is_phi result_of uses targets same_constant
+counter_without_phi = refl
+
+pub counter_flows : CounterFlows
+unfolding CounterFlows plan_of loop_plan region_of is_phi result_of uses targets same_constant
+counter_flows = refl
+
+pub counter_unknown : CounterUnknown
+unfolding CounterUnknown plan_of loop_plan region_of is_phi result_of uses targets same_constant
+counter_unknown = refl
+
+pub sum_is_reduced : SumIsReduced
+unfolding SumIsReduced plan_of loop_plan region_of is_phi result_of uses targets same_constant
+sum_is_reduced = refl
+
