@@ -1,6 +1,6 @@
 -- Outputs in the order of their turns.
-use Rattle.std.specs.Prelude.{◌≡◌, ℕ, List, map}
-use Rattle.std.specs.List.{flat_map}
+use Rattle.std.specs.Prelude.{◌≡◌, ◌==◌, ℕ, List, map}
+use Rattle.std.specs.List.{flat_map, IsDistinct}
 use Rattle.std.specs.List.Sorted.{IsPermutation, IsNonDecreasing}
 use Rattle.deferred_output.specs.declared.output.TurnOutput.{TurnOutput}
 
@@ -17,3 +17,11 @@ pub record IsInTurnOrder (parts : List TurnOutput) (bytes : List ℕ) : Type 0 w
   pub same : IsPermutation parts order
   pub rises : IsNonDecreasing (turns order)
   pub is : bytes ≡ joined order
+
+-- no two parts are of one turn
+abbrev pub HaveDistinctTurns : List TurnOutput → Type 0
+HaveDistinctTurns parts = IsDistinct (λ m n. m == n) (turns parts)
+
+-- parts of distinct turns have one answer, in whatever order they come
+abbrev pub OneAnswer : Type 0
+OneAnswer = (parts others : List TurnOutput) (bytes more : List ℕ) → HaveDistinctTurns parts → IsPermutation parts others → IsInTurnOrder parts bytes → IsInTurnOrder others more → bytes ≡ more
