@@ -1,5 +1,5 @@
 //! Walks round a circle, and how long they stay on a stretch of it.
-ghost use Rattle.std.specs.Prelude.{◌≡◌, ◌<◌, IfSome, nat_lt, if◌then◌else◌};
+ghost use Rattle.std.specs.Prelude.{◌≡◌, ◌<◌, ◌+◌, None, IfSome, nat_lt, if◌then◌else◌};
 ghost use Rattle.turn_count.specs.Walks.{IsWalk, steps_inside};
 
 /// A walk of equal steps round a circle of numbered places: after the last comes 0. The first places are inside, so many.
@@ -27,7 +27,8 @@ fn onward(walk: Walk, cap: u32) -> Option<u32>
     requires walk { IsWalk walk }
     requires moves { 0 < walk.step }
     requires inside { walk.place < walk.inside }
-    ensures { IfSome result (λ steps. steps ≡ steps_inside walk cap) }
+    ensures steps { IfSome result (λ steps. steps ≡ steps_inside walk cap) }
+    ensures passes { result ≡ None → walk.whole < walk.inside + walk.step }
 {
     let steps = (walk.inside - 1 - walk.place) / walk.step + 1;
     if steps < u128::from(cap) && walk.whole <= walk.place + steps * walk.step {
@@ -40,7 +41,8 @@ fn onward(walk: Walk, cap: u32) -> Option<u32>
 fn backward(walk: Walk, cap: u32) -> Option<u32>
     requires walk { IsWalk walk }
     requires inside { walk.place < walk.inside }
-    ensures { IfSome result (λ steps. steps ≡ steps_inside walk cap) }
+    ensures steps { IfSome result (λ steps. steps ≡ steps_inside walk cap) }
+    ensures passes { result ≡ None → walk.step < walk.inside }
 {
     let back = walk.whole - walk.step;
     let steps = walk.place / back + 1;
@@ -50,9 +52,11 @@ fn backward(walk: Walk, cap: u32) -> Option<u32>
     Some(capped(steps, cap))
 }
 
-/// The steps inside, one by one.
+/// The steps inside, one by one. A walk whose step, onward or back, is no longer than what is outside has no need of it.
 fn one_by_one(walk: Walk, cap: u32) -> u32
-    requires { IsWalk walk }
+    requires walk { IsWalk walk }
+    requires onward { walk.whole < walk.inside + walk.step }
+    requires back { walk.step < walk.inside }
     ensures { result ≡ steps_inside walk cap }
 {
     let mut place = walk.place;
