@@ -1,5 +1,5 @@
 -- The worked plans.
-use Rattle.std.specs.Prelude.{ℕ, ◌≡◌, pos, codes, List, [], ◌∷◌, true, false, Some, None}
+use Rattle.std.specs.Prelude.{ℕ, ◌≡◌, pos, codes, List, [], ◌∷◌, map, replicate, true, false, Option, Some, None}
 use Rattle.int_num.specs.declared.ops.BinOp.{BinOp}
 use Rattle.int_num.specs.declared.ops.BinOp.TheVariants as bin
 use Rattle.int_num.specs.declared.ops.Flags.{Flags}
@@ -7,17 +7,22 @@ use Rattle.int_num.specs.declared.ops.Pred.TheVariants.{Slt}
 use Rattle.int_num.specs.declared.ops.RedOp.TheVariants as red
 use Rattle.int_num.specs.declared.ops.RedKind.{RedKind}
 use Rattle.pv_base.specs.Outside.{Text}
+use Rattle.pv_base.specs.declared.name.Name.{Name}
+use Rattle.pv_base.specs.declared.place.AllocSite.{AllocSite}
 use Rattle.pv_base.specs.declared.place.AllocSite.TheVariants as site
 use Rattle.pv_base.specs.declared.place.Heap.{Heap}
-use Rattle.pv_base.specs.declared.place.Heap.TheVariants.{Private, Reduction}
+use Rattle.pv_base.specs.declared.place.Heap.TheVariants.{Private, Reduction, ShortLived}
 use Rattle.ir_tree.specs.declared.instruction.Operand.TheVariants.{Constant}
 use Rattle.ir_tree.specs.declared.instruction.Instruction.TheVariants as tree
 use Rattle.ir_tree.specs.declared.plans.Tag.{Tag}
 use Rattle.ir_tree.specs.declared.plans.Expect.{Expect}
 use Rattle.ir_tree.specs.declared.plans.Triple.{Triple}
-use Rattle.ir_tree.specs.Trees.{IntegerC, NameC}
-use Rattle.ir_rules.specs.Seen.{ModuleV, OperandV}
-use Rattle.profile_lines.specs.declared.profile.ObjectName.TheVariants.{Global}
+use Rattle.ir_tree.specs.declared.instruction.Callee.TheVariants as callee
+use Rattle.ir_tree.specs.Trees.{TypeV, IntV, PtrV, VoidV, IntegerC, NullC, NameC}
+use Rattle.ir_rules.specs.Seen.{ModuleV, FunctionV, GlobalV, InstructionV, OperandV, ArgumentV}
+use Rattle.profile_lines.specs.declared.profile.ObjectName.{ObjectName}
+use Rattle.profile_lines.specs.declared.profile.ObjectName.TheVariants.{Global, At}
+use Rattle.profile_lines.specs.declared.profile.ValueLine.{ValueLine}
 use Rattle.profile_lines.specs.declared.profile.PhiWord.{PhiWord}
 use Rattle.profile_lines.specs.declared.profile.PhiWord.TheVariants as word
 use Rattle.profile_lines.specs.declared.profile.Profile.{Profile}
@@ -31,7 +36,7 @@ use Rattle.loop_plan.specs.declared.plan.Reason.{Reason}
 use Rattle.loop_plan.specs.declared.plan.Reason.TheVariants as reason
 use Rattle.loop_plan.specs.Triples.{no_flags}
 use Rattle.loop_plan.specs.Plans.{plan_of}
-use Rattle.worked_plans.specs.Texts.{called, register, number, word as i32, block, jump, arm, variable, looping, ends_with_0, named, use_line, phi_line, profiled, at}
+use Rattle.worked_plans.specs.Texts.{called, register, number, word as i32, block, jump, arm, variable, looping, ends_with_0, named, in_main, use_line, phi_line, profiled, at}
 
 -- ---- what plans say
 
@@ -160,3 +165,86 @@ SumIsReduced = plan_of summing (profiled (phi_line (codes "i") (word.Step (pos 1
   } ∷ [];
   left_out = [];
 }
+
+-- ---- a list that each turn builds and empties
+
+abbrev pub pointer_global : Text → GlobalV
+pointer_global x = variable x PtrV NullC
+
+abbrev pub declared : Text → TypeV → List TypeV → FunctionV
+declared x result params = record { name = called x; result = result; params = map (λ t. record { name = None; of = t }) params; variadic = false; blocks = []; declared = true }
+
+abbrev pub call : Option Name → TypeV → Text → ArgumentV → InstructionV
+call to of x argument = tree.Call to of false (callee.Function (called x)) (argument ∷ [])
+
+abbrev pub listing : ModuleV
+listing = record {
+  types = [];
+  globals = pointer_global (codes "list") ∷ pointer_global (codes "tail") ∷ [];
+  functions =
+    looping 6 []
+      (block (codes "body") (
+        call (Some (called (codes "p"))) PtrV (codes "malloc") (record { of = IntV 64; value = Constant (IntegerC (record { width = 64; bits = 16 })) })
+        ∷ tree.Load (called (codes "h")) PtrV (global (codes "list"))
+        ∷ tree.Store PtrV (register (codes "h")) (register (codes "p"))
+        ∷ tree.Store PtrV (register (codes "p")) (global (codes "list"))
+        ∷ tree.Store PtrV (register (codes "p")) (global (codes "tail"))
+        ∷ tree.Load (called (codes "g")) PtrV (global (codes "list"))
+        ∷ tree.Load (called (codes "n")) PtrV (register (codes "g"))
+        ∷ tree.Store PtrV (register (codes "n")) (global (codes "list"))
+        ∷ call None VoidV (codes "free") (record { of = PtrV; value = register (codes "g") })
+        ∷ jump (codes "latch") ∷ []) ∷ [])
+      ends_with_0
+    ∷ declared (codes "malloc") PtrV (IntV 64 ∷ [])
+    ∷ declared (codes "free") VoidV (PtrV ∷ []) ∷ [];
+}
+
+abbrev pub of_list : ObjectName
+of_list = Global (named (codes "list"))
+
+abbrev pub listed : List ValueLine → Profile
+listed values = profiled (phi_line (codes "i") (word.Step (pos 1)) ∷ [])
+    (use_line 5 of_list ∷ use_line 6 (At (in_main 4)) ∷ use_line 7 of_list ∷ use_line 8 (Global (named (codes "tail"))) ∷ use_line 9 of_list ∷ use_line 10 (At (in_main 4)) ∷ use_line 11 of_list ∷ [])
+    (in_main 4 ∷ [])
+    (record { object = of_list; offset = 0; length = 8 } ∷ [])
+    values
+
+-- the head of the list is null at each turn's start
+abbrev pub null_head : ValueLine
+null_head = record { global = named (codes "list"); offset = 0; bytes = replicate 8 0 }
+
+abbrev pub private_site : ℕ → AllocSite × Tag
+private_site g = (site.Global g, record { heap = Private; kind = None })
+
+-- The nodes die in their turn, and what flows in the list's head is guessed.
+unfoldable pub ListIsBuiltInTurns : Type 0
+ListIsBuiltInTurns = plan_of listing (listed (null_head ∷ [])) ≡ record {
+  loops = record {
+    number = 0;
+    period = None;
+    region = region 6 (counted ∷ []);
+    tags = private_site 0 ∷ private_site 1 ∷ (site.At (at 4), record { heap = ShortLived; kind = None }) ∷ [];
+    expected = expect 5 Private ∷ expect 6 ShortLived ∷ expect 7 Private ∷ expect 8 Private ∷ expect 9 Private ∷ expect 10 ShortLived ∷ expect 11 Private ∷ [];
+    guesses = record { global = 0; offset = 0; bytes = replicate 8 0 } ∷ [];
+    scratch = [];
+  } ∷ [];
+  left_out = [];
+}
+
+-- Without the guess the flow leaves it out.
+unfoldable pub ListFlows : Type 0
+ListFlows = plan_of listing (listed []) ≡ left (reason.Unrestricted (site.Global 0))
+
+-- A guess that leaves its global.
+unfoldable pub ListGuessLeaves : Type 0
+ListGuessLeaves = plan_of listing (listed (null_head ∷ record { global = named (codes "tail"); offset = 1; bytes = replicate 8 0 } ∷ [])) ≡ left reason.Guess
+
+-- Two guesses that overlap.
+unfoldable pub ListGuessesOverlap : Type 0
+ListGuessesOverlap = plan_of listing (listed (null_head ∷ record { global = named (codes "list"); offset = 7; bytes = 0 ∷ [] } ∷ [])) ≡ left reason.Guess
+
+-- A slot that touches a node and the list's head.
+unfoldable pub ListIsMixed : Type 0
+ListIsMixed =
+    plan_of listing (profiled (phi_line (codes "i") (word.Step (pos 1)) ∷ []) (use_line 6 (At (in_main 4)) ∷ use_line 6 of_list ∷ []) (in_main 4 ∷ []) [] [])
+    ≡ left (reason.Mixed (at 6) 0)
