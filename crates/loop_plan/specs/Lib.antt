@@ -6,5 +6,6 @@ pub mod Phis
 pub mod Tests
 pub mod Heaps
 pub mod Plans
+pub mod Promised
 pub mod Lines
 pub mod Laws
