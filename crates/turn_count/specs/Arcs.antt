@@ -44,6 +44,7 @@ half n = 2 ^ (n.width - 1)
 abbrev pub signed_place : Integer → ℕ
 signed_place n = (n.bits + half n) % 2 ^ n.width
 
+-- so many values from the first on
 abbrev pub arc_of : ℕ → ℕ → Arc
 arc_of first length = record { first = first; length = length }
 

@@ -1,7 +1,7 @@
 //! The values that a predicate holds of, as one stretch of the circle of all values of a width: after the greatest comes 0.
 ghost use Rattle.std.specs.Prelude.{◌≡◌, ◌≤◌, ◌<◌, ◌^◌};
 ghost use Rattle.int_num.specs.Integer.{IsWidth, IsInteger};
-ghost use Rattle.turn_count.specs.Arcs.{half, signed_place, holding};
+ghost use Rattle.turn_count.specs.Arcs.{half, signed_place, arc_of, holding};
 
 use int_num::int::Int;
 use int_num::ops::Pred;
@@ -11,6 +11,14 @@ use int_num::ops::Pred;
 pub(crate) struct Arc {
     pub(crate) first: u128,
     pub(crate) length: u128,
+}
+
+impl Arc {
+    fn new(first: u128, length: u128) -> Arc
+        ensures { result ≡ arc_of first length }
+    {
+        Arc { first, length }
+    }
 }
 
 /// How many values there are: 2^width.
@@ -48,45 +56,15 @@ pub(crate) fn holding(pred: Pred, bound: Int) -> Arc
     let whole = whole(bound.width());
     let place = signed_place(bound);
     match pred {
-        Pred::Eq => Arc {
-            first: bits,
-            length: 1,
-        },
-        Pred::Ne => Arc {
-            first: bits + 1,
-            length: whole - 1,
-        },
-        Pred::Ugt => Arc {
-            first: bits + 1,
-            length: whole - 1 - bits,
-        },
-        Pred::Uge => Arc {
-            first: bits,
-            length: whole - bits,
-        },
-        Pred::Ult => Arc {
-            first: 0,
-            length: bits,
-        },
-        Pred::Ule => Arc {
-            first: 0,
-            length: bits + 1,
-        },
-        Pred::Sgt => Arc {
-            first: bits + 1,
-            length: whole - 1 - place,
-        },
-        Pred::Sge => Arc {
-            first: bits,
-            length: whole - place,
-        },
-        Pred::Slt => Arc {
-            first: half(bound),
-            length: place,
-        },
-        Pred::Sle => Arc {
-            first: half(bound),
-            length: place + 1,
-        },
+        Pred::Eq => Arc::new(bits, 1),
+        Pred::Ne => Arc::new(bits + 1, whole - 1),
+        Pred::Ugt => Arc::new(bits + 1, whole - 1 - bits),
+        Pred::Uge => Arc::new(bits, whole - bits),
+        Pred::Ult => Arc::new(0, bits),
+        Pred::Ule => Arc::new(0, bits + 1),
+        Pred::Sgt => Arc::new(bits + 1, whole - 1 - place),
+        Pred::Sge => Arc::new(bits, whole - place),
+        Pred::Slt => Arc::new(half(bound), place),
+        Pred::Sle => Arc::new(half(bound), place + 1),
     }
 }
