@@ -4,12 +4,14 @@ use privacy_check::shadow::Shadow;
 use pv_base::list::List;
 use pv_base::place::Place;
 use pv_base::want::Memory;
-use shadow_codes::codes::{first_clash, greatest, on_read, on_write, reset};
+use shadow_codes::codes::{
+    Code, READ_LIVE_IN, UNTOUCHED, first_clash, greatest, on_read, on_write, reset,
+};
 use std::alloc::Global;
 use std::process::Abort;
 
 /// A code, and what it is after a read and after a write at stamp 4.
-const CODES: &[(u8, Option<u8>, Option<u8>)] = &[
+const CODES: &[(Code, Option<Code>, Option<Code>)] = &[
     (0, Some(2), Some(4)),
     (1, None, Some(4)),
     (2, Some(2), None),
@@ -18,7 +20,7 @@ const CODES: &[(u8, Option<u8>, Option<u8>)] = &[
 ];
 
 /// The first code that is another after a read or a write, or is no code at stamp 4.
-fn first_other(rows: &[(u8, Option<u8>, Option<u8>)]) -> Option<u8> {
+fn first_other(rows: &[(Code, Option<Code>, Option<Code>)]) -> Option<Code> {
     for (code, read, written) in rows {
         if *code > 4 || on_read(*code, 4) != *read || on_write(*code, 4) != *written {
             return Some(*code);
@@ -28,7 +30,7 @@ fn first_other(rows: &[(u8, Option<u8>, Option<u8>)]) -> Option<u8> {
 }
 
 /// What codes are after a reset.
-fn reset_of(mut codes: [u8; 5]) -> [u8; 5] {
+fn reset_of(mut codes: [Code; 5]) -> [Code; 5] {
     reset(&mut codes);
     codes
 }
@@ -36,19 +38,19 @@ fn reset_of(mut codes: [u8; 5]) -> [u8; 5] {
 #[test]
 fn codes_change_by_reads_writes_and_resets(rt: HostRuntime) {
     assert_eq!(rt; first_other(CODES), None);
-    assert_eq!(rt; reset_of([0, 1, 2, 3, 255]), [0, 1, 0, 1, 1]);
+    assert_eq!(rt; reset_of([0, 1, 2, 3, 65_535]), [0, 1, 0, 1, 1]);
 }
 
 /// What is found of so many codes of which one may be set: the clash, and the greatest stamps of the reads and of the writes.
-type Found = (Option<usize>, u8, u8);
+type Found = (Option<usize>, Code, Code);
 
-/// What is found of codes that nothing read and that are only read, but for one that is read and written by stamp 200.
+/// What is found of codes that nothing read and that are only read, but for one that is read and written by stamp 40,000.
 fn found(rt: &impl Abort, alloc: Global, len: usize, hit: Option<usize>) -> Result<Found, Memory> {
-    let mut reads = vec![in alloc; 0u8; len]?;
-    let mut writes = vec![in alloc; 2u8; len]?;
+    let mut reads = vec![in alloc; UNTOUCHED; len]?;
+    let mut writes = vec![in alloc; READ_LIVE_IN; len]?;
     if let Some(at) = hit {
         set(reads.as_mut_slice(), at, 2);
-        set(writes.as_mut_slice(), at, 200);
+        set(writes.as_mut_slice(), at, 40_000);
     }
     assert!(rt; reads.len() == writes.len());
     Ok((
@@ -59,36 +61,36 @@ fn found(rt: &impl Abort, alloc: Global, len: usize, hit: Option<usize>) -> Resu
 }
 
 /// Sets a code where there is one.
-fn set(codes: &mut [u8], at: usize, code: u8) {
+fn set(codes: &mut [Code], at: usize, code: Code) {
     if at < codes.len() {
         codes[at] = code;
     }
 }
 
 /// Lengths, where a hit is, and the greatest stamp of the writes.
-const HITS: &[(usize, Option<usize>, u8)] = &[
+const HITS: &[(usize, Option<usize>, Code)] = &[
     (0, None, 0),
     (1, None, 0),
-    (1, Some(0), 200),
+    (1, Some(0), 40_000),
     (31, None, 0),
-    (31, Some(0), 200),
-    (31, Some(30), 200),
+    (31, Some(0), 40_000),
+    (31, Some(30), 40_000),
     (32, None, 0),
-    (32, Some(0), 200),
-    (32, Some(31), 200),
+    (32, Some(0), 40_000),
+    (32, Some(31), 40_000),
     (33, None, 0),
-    (33, Some(0), 200),
-    (33, Some(32), 200),
+    (33, Some(0), 40_000),
+    (33, Some(32), 40_000),
     (1000, None, 0),
-    (1000, Some(0), 200),
-    (1000, Some(999), 200),
+    (1000, Some(0), 40_000),
+    (1000, Some(999), 40_000),
 ];
 
 /// The first row of which something else is found, or for which memory is refused.
 fn first_missed(
     rt: &impl Abort,
     alloc: Global,
-    rows: &[(usize, Option<usize>, u8)],
+    rows: &[(usize, Option<usize>, Code)],
 ) -> Option<usize> {
     for row in 0..rows.len() {
         let (len, hit, most) = rows[row];
@@ -110,7 +112,7 @@ fn one_hit_is_found_at_each_length(rt: HostRuntime) {
 }
 
 /// An access: its offset, length and stamp, and its answer.
-type Call = (Access, u64, u64, u8, Result<(), BadCode>);
+type Call = (Access, u64, u64, Code, Result<(), BadCode>);
 
 /// The first call whose answer is another.
 fn first_other_answer(rt: &impl Abort, shadow: &mut Shadow, calls: &[Call]) -> Option<usize> {
@@ -131,7 +133,7 @@ fn touch(
     access: Access,
     at: Place,
     len: u64,
-    beta: u8,
+    beta: Code,
 ) -> Result<(), BadCode> {
     assert!(rt; beta >= 3 && shadow.may_access(at, len, beta));
     match access {
@@ -152,6 +154,49 @@ const PERIODS: &[&[Call]] = &[
         (Access::Read, 0, 1, 3, Err(BadCode { offset: 0, code: 1 })),
         (Access::Read, 2, 1, 3, Ok(())),
         (Access::Write, 0, 4, 3, Err(BadCode { offset: 2, code: 2 })),
+    ],
+];
+
+/// The same with the least and the greatest stamp, and with writes that are old in two periods.
+const STAMPS: &[&[Call]] = &[
+    &[
+        (Access::Write, 0, 1, 3, Ok(())),
+        (Access::Write, 2, 1, 65_534, Ok(())),
+        (Access::Write, 0, 1, 65_535, Ok(())),
+        (Access::Read, 0, 2, 65_535, Ok(())),
+        (
+            Access::Read,
+            1,
+            2,
+            65_535,
+            Err(BadCode {
+                offset: 2,
+                code: 65_534,
+            }),
+        ),
+        (
+            Access::Write,
+            0,
+            2,
+            65_535,
+            Err(BadCode { offset: 1, code: 2 }),
+        ),
+    ],
+    &[
+        (Access::Read, 0, 1, 3, Err(BadCode { offset: 0, code: 1 })),
+        (Access::Write, 0, 1, 3, Ok(())),
+        (Access::Read, 0, 2, 3, Ok(())),
+    ],
+    &[
+        (Access::Read, 2, 1, 3, Err(BadCode { offset: 2, code: 1 })),
+        (
+            Access::Read,
+            0,
+            1,
+            65_535,
+            Err(BadCode { offset: 0, code: 1 }),
+        ),
+        (Access::Write, 1, 2, 3, Ok(())),
     ],
 ];
 
@@ -184,4 +229,5 @@ fn first_other_period(
 #[test]
 fn a_shadow_refuses_reads_of_old_writes_and_writes_of_what_was_read(rt: HostRuntime) {
     assert_eq!(rt; first_other_period(&rt, rt.alloc(), PERIODS), None);
+    assert_eq!(rt; first_other_period(&rt, rt.alloc(), STAMPS), None);
 }

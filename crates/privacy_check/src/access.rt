@@ -1,5 +1,7 @@
 //! An access to private bytes, and its refusal.
 
+use shadow_codes::codes::Code;
+
 /// What a turn does to a byte.
 #[derive(Clone, Copy, Debug, PartialEq, Eq)]
 pub enum Access {
@@ -11,5 +13,5 @@ pub enum Access {
 #[derive(Clone, Copy, Debug, PartialEq, Eq)]
 pub struct BadCode {
     pub offset: u64,
-    pub code: u8,
+    pub code: Code,
 }

@@ -4,15 +4,15 @@ ghost use Rattle.std.specs.Result.{result_unwrap_or};
 ghost use Rattle.privacy_check.specs.Shadows.{after, next_code, first_bad, passed, in_range, object_after, told};
 
 use crate::access::{Access, BadCode};
-use shadow_codes::codes::{on_read, on_write};
+use shadow_codes::codes::{Code, on_read, on_write};
 
 // An access to the `len` codes from `offset` on: the first byte that it may not pass, or the codes after it.
 pub fn touch_range(
     access: Access,
-    codes: &mut [u8],
+    codes: &mut [Code],
     offset: u64,
     len: u64,
-    beta: u8,
+    beta: Code,
 ) -> Result<(), BadCode>
     requires within { offset + len ≤ length codes.old }
     requires stamps { All (λ c. c ≤ beta) (in_range offset len codes.old) }
@@ -35,7 +35,7 @@ pub fn touch_range(
 }
 
 // Whether the `len` codes from `offset` on are there, and none is above the stamp.
-pub fn has_range(codes: &[u8], offset: u64, len: u64, beta: u8) -> bool
+pub fn has_range(codes: &[Code], offset: u64, len: u64, beta: Code) -> bool
     ensures within { IsTrue result → offset + len ≤ length codes.now }
     ensures stamps { IsTrue result → All (λ c. c ≤ beta) (in_range offset len codes.now) }
     ensures whole { offset + len ≤ length codes.now → All (λ c. c ≤ beta) (in_range offset len codes.now) → IsTrue result }
@@ -49,14 +49,14 @@ pub fn has_range(codes: &[u8], offset: u64, len: u64, beta: u8) -> bool
 }
 
 // Whether no code is above the stamp.
-fn all_at_most(codes: &[u8], beta: u8) -> bool
+fn all_at_most(codes: &[Code], beta: Code) -> bool
     ensures { IsTrue result ↔ All (λ c. c ≤ beta) codes.now }
 {
     codes.iter().all(|code| *code <= beta)
 }
 
 // The first code that the access may not pass.
-fn first_refused(access: Access, codes: &[u8], beta: u8) -> Option<usize>
+fn first_refused(access: Access, codes: &[Code], beta: Code) -> Option<usize>
     requires stamps { All (λ c. c ≤ beta) codes.now }
     requires stamp { 3 ≤ beta }
     ensures { result ≡ first_bad access beta codes.now }
@@ -67,7 +67,7 @@ fn first_refused(access: Access, codes: &[u8], beta: u8) -> Option<usize>
 }
 
 // The codes after an access that passes.
-fn mark(access: Access, codes: &mut [u8], beta: u8)
+fn mark(access: Access, codes: &mut [Code], beta: Code)
     requires stamps { All (λ c. c ≤ beta) codes.old }
     requires stamp { 3 ≤ beta }
     ensures { codes.new ≡ passed access beta codes.old }
@@ -78,7 +78,7 @@ fn mark(access: Access, codes: &mut [u8], beta: u8)
 }
 
 // The code after an access, or the same code where it may not pass.
-fn next(access: Access, code: u8, beta: u8) -> u8
+fn next(access: Access, code: Code, beta: Code) -> Code
     requires known { code ≤ beta }
     requires stamp { 3 ≤ beta }
     ensures { result ≡ next_code access beta code }
@@ -87,7 +87,7 @@ fn next(access: Access, code: u8, beta: u8) -> u8
 }
 
 // The code after an access, where it may pass.
-fn step(access: Access, code: u8, beta: u8) -> Option<u8>
+fn step(access: Access, code: Code, beta: Code) -> Option<Code>
     requires known { code ≤ beta }
     requires stamp { 3 ≤ beta }
     ensures { result ≡ after access beta code }

@@ -10,7 +10,7 @@ use crate::object::{has_range, touch_range};
 use pv_base::list::List;
 use pv_base::place::Place;
 use pv_base::want::Memory;
-use shadow_codes::codes::{UNTOUCHED, reset};
+use shadow_codes::codes::{Code, UNTOUCHED, reset};
 use std::alloc::Global;
 use std::collections::BTreeMap;
 use std::marker::Model;
@@ -19,7 +19,7 @@ use std::marker::Model;
 /// and an access costs its length.
 #[derive(Drop)]
 pub struct Shadow {
-    objects: BTreeMap<u32, Vec<u8>>,
+    objects: BTreeMap<u32, Vec<Code>>,
 }
 
 impl Model for Shadow {
@@ -46,7 +46,7 @@ impl Shadow {
 
     /// Whether an access may be asked for: its range lies in an object, and no code there is above the stamp. It costs
     /// the length; a caller whose stamps do not fall within a period knows it without asking.
-    pub fn may_access(&self, at: Place, len: u64, beta: u8) -> bool
+    pub fn may_access(&self, at: Place, len: u64, beta: Code) -> bool
         ensures true_where { IsTrue result → MayAccess (codes_of self.now) at len beta }
         ensures false_else { MayAccess (codes_of self.now) at len beta → IsTrue result }
     {
@@ -58,7 +58,7 @@ impl Shadow {
 
     /// A read of `len` bytes by the turn with stamp `beta`. Where some byte's value is of another turn of this worker,
     /// the answer is the first such byte, and nothing changes.
-    pub fn read(&mut self, at: Place, len: u64, beta: u8) -> Result<(), BadCode>
+    pub fn read(&mut self, at: Place, len: u64, beta: Code) -> Result<(), BadCode>
         requires range { MayAccess (codes_of self.old) at len beta }
         requires stamp { 3 ≤ beta }
         ensures answer { result ≡ told (shadows_after Access.Read beta at len (codes_of self.old)) }
@@ -69,7 +69,7 @@ impl Shadow {
 
     /// A write of `len` bytes by the turn with stamp `beta`. Where this worker read some byte's value from before the
     /// period, the answer is the first such byte, and nothing changes.
-    pub fn write(&mut self, at: Place, len: u64, beta: u8) -> Result<(), BadCode>
+    pub fn write(&mut self, at: Place, len: u64, beta: Code) -> Result<(), BadCode>
         requires range { MayAccess (codes_of self.old) at len beta }
         requires stamp { 3 ≤ beta }
         ensures answer { result ≡ told (shadows_after Access.Write beta at len (codes_of self.old)) }
@@ -79,7 +79,7 @@ impl Shadow {
     }
 
     // An access to a range.
-    fn touch(&mut self, access: Access, at: Place, len: u64, beta: u8) -> Result<(), BadCode>
+    fn touch(&mut self, access: Access, at: Place, len: u64, beta: Code) -> Result<(), BadCode>
         requires range { MayAccess (codes_of self.old) at len beta }
         requires stamp { 3 ≤ beta }
         ensures answer { result ≡ told (shadows_after access beta at len (codes_of self.old)) }
@@ -104,7 +104,7 @@ impl Shadow {
 }
 
 // So many codes of bytes that nothing has touched.
-fn untouched_codes(alloc: Global, size: usize) -> Result<Vec<u8>, Memory>
+fn untouched_codes(alloc: Global, size: usize) -> Result<Vec<Code>, Memory>
     ensures { IfOk result (λ v. v.items ≡ replicate size 0) }
 {
     let codes = vec![in alloc; UNTOUCHED; size]?;

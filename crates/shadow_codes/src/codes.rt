@@ -2,18 +2,23 @@
 ghost use Rattle.std.specs.Prelude.{◌≡◌, ◌≤◌, length, map};
 ghost use Rattle.shadow_codes.specs.Codes.{read_code, write_code, reset_code, clashes, first_clash_of, greatest_of, stamps};
 
+use crate::lanes::{front_without_clash, greatest_in_lanes, lanes_of, reset_lanes};
+
+/// The code of one private byte.
+pub type Code = u16;
+
 /// Neither written by this worker in the span, nor read in this period.
-pub const UNTOUCHED: u8 = 0;
+pub const UNTOUCHED: Code = 0;
 /// Written by this worker in an earlier period of the span.
-pub const OLD_WRITE: u8 = 1;
+pub const OLD_WRITE: Code = 1;
 /// Read in this period, before any write by this worker.
-pub const READ_LIVE_IN: u8 = 2;
+pub const READ_LIVE_IN: Code = 2;
 /// The stamp of a period's first turn.
-pub const FIRST_STAMP: u8 = 3;
+pub const FIRST_STAMP: Code = 3;
 
 /// The code after a read by the turn with stamp `beta`, or None where the read may not pass: the byte has a value that
 /// another turn of this worker wrote.
-pub fn on_read(code: u8, beta: u8) -> Option<u8>
+pub fn on_read(code: Code, beta: Code) -> Option<Code>
     requires stamp { 3 ≤ beta }
     requires known { code ≤ beta }
     ensures { result ≡ read_code beta code }
@@ -28,7 +33,7 @@ pub fn on_read(code: u8, beta: u8) -> Option<u8>
 
 /// The code after a write by the turn with stamp `beta`, or None where the write may not pass: this worker read the
 /// byte's value from before the period.
-pub fn on_write(code: u8, beta: u8) -> Option<u8>
+pub fn on_write(code: Code, beta: Code) -> Option<Code>
     requires stamp { 3 ≤ beta }
     requires known { code ≤ beta }
     ensures { result ≡ write_code beta code }
@@ -41,7 +46,16 @@ pub fn on_write(code: u8, beta: u8) -> Option<u8>
 }
 
 /// The codes with which the next period begins: writes become old, reads are forgotten.
-pub fn reset(codes: &mut [u8])
+pub fn reset(codes: &mut [Code])
+    ensures { codes.new ≡ map reset_code codes.old }
+{
+    let whole = lanes_of(codes.len());
+    reset_lanes(codes, whole);
+    reset_each(&mut codes[whole..]);
+}
+
+// The same, code by code.
+fn reset_each(codes: &mut [Code])
     ensures { codes.new ≡ map reset_code codes.old }
 {
     for code in codes.iter_mut() {
@@ -50,7 +64,7 @@ pub fn reset(codes: &mut [u8])
 }
 
 // The code with which the next period begins.
-fn after_period(code: u8) -> u8
+fn after_period(code: Code) -> Code
     ensures { result ≡ reset_code code }
 {
     match code {
@@ -60,7 +74,19 @@ fn after_period(code: u8) -> u8
 }
 
 /// The first byte that one worker read from before the period and the other wrote in the span.
-pub fn first_clash(reads: &[u8], writes: &[u8]) -> Option<usize>
+pub fn first_clash(reads: &[Code], writes: &[Code]) -> Option<usize>
+    requires { length reads.now ≡ length writes.now }
+    ensures { result ≡ first_clash_of reads.now writes.now }
+{
+    let front = front_without_clash(reads, writes);
+    match clash_in(&reads[front..], &writes[front..]) {
+        Some(behind) => Some(front + behind),
+        None => None,
+    }
+}
+
+// The first clash, byte by byte.
+fn clash_in(reads: &[Code], writes: &[Code]) -> Option<usize>
     requires { length reads.now ≡ length writes.now }
     ensures { result ≡ first_clash_of reads.now writes.now }
 {
@@ -71,15 +97,25 @@ pub fn first_clash(reads: &[u8], writes: &[u8]) -> Option<usize>
 }
 
 // Whether one worker's code of a byte says read, and the other's says written.
-fn is_clash(read: u8, write: u8) -> bool
+fn is_clash(read: Code, write: Code) -> bool
     ensures { result ≡ clashes read write }
 {
     read == READ_LIVE_IN && (write == OLD_WRITE || write >= FIRST_STAMP)
 }
 
 /// The greatest stamp among the codes, or 0 where there is none.
+pub fn greatest(codes: &[Code]) -> Code
+    ensures { result ≡ greatest_of (stamps codes.now) }
+{
+    let whole = lanes_of(codes.len());
+    let front = greatest_each(&greatest_in_lanes(codes, whole));
+    let behind = greatest_each(&codes[whole..]);
+    front.max(behind)
+}
+
+// The greatest stamp, code by code.
 #[tactic(auto, using(crate::proofs::Greatest::greatest_more))]
-pub fn greatest(codes: &[u8]) -> u8
+fn greatest_each(codes: &[Code]) -> Code
     ensures { result ≡ greatest_of (stamps codes.now) }
 {
     let mut most = 0;

@@ -6,3 +6,4 @@
 #![tactic(auto)]
 
 pub mod codes;
+mod lanes;

@@ -1,10 +1,15 @@
-use Rattle.std.proofs.Common.{◌<◌, length, get_or, arith}
-use Rattle.std.proofs.lemmas.List.{get_or_default}
-use Rattle.std.proofs.lemmas.List.Edits.{map_over_more}
+use Rattle.std.proofs.Common.{ℕ, List, ◌-◌, ◌≤◌, map, take, drop, length, ap, ◌∙◌, arith}
+use borrow.Rule.Slice.PartMut.{put_mid}
 use Rattle.shadow_codes.specs.Codes.{reset_code}
+use Rattle.shadow_codes.proofs.Blocks.{put_rest}
 use Rattle.shadow_codes.proofs.codes.reset.Goals as goal
 
-pub loop-code-preserved : goal.loop-code-preserved
-loop-code-preserved c =
-    let below : c.loop-code.code-index < length c.args.codes.now = omega arith in
-    rw c.after_period.ensures (map_over_more reset_code c.args.codes.now c.loop-code.codes c.loop-code.code-index (get_or c.loop-code.codes c.loop-code.code-index 0) below c.loop-code.invariant (get_or_default c.loop-code.codes c.loop-code.code-index 0 _ (omega arith)))
+pub returns : goal.returns
+returns c =
+    let whole : ℕ = c.lanes_of-whole.result in
+    let front : List ℕ = c.reset_lanes.new.codes in
+    let left : ℕ = length front - whole in
+    let within : whole ≤ length c.args.codes.now = omega arith in
+    ap (put_mid whole left front) c.reset_each.ensures
+    ∙ ap (λ (xs : List ℕ). put_mid whole left xs (map reset_code (take left (drop whole xs)))) c.reset_lanes.ensures
+    ∙ put_rest reset_code whole left c.args.codes.now within (omega arith)
