@@ -16,11 +16,11 @@ pub small_later : (last later : ℕ) (xs : List ℕ) → last ≤ later → Smal
 small_later last later [] h s = tt
 small_later last later (x ∷ xs) h s = (s.0, omega arith, small_later last later xs h s.2)
 
-greatest_small : (last : ℕ) (xs : List ℕ) → Small last xs → greatest_of xs ≤ last
+pub greatest_small : (last : ℕ) (xs : List ℕ) → Small last xs → greatest_of xs ≤ last
 greatest_small last [] s = omega arith
 greatest_small last (x ∷ xs) s = omega (arith, greatest_small last xs s.2, s.1)
 
-greatest_stamp : (last x : ℕ) (xs : List ℕ) → Small last (x ∷ xs) → 3 ≤ greatest_of (x ∷ xs)
+pub greatest_stamp : (last x : ℕ) (xs : List ℕ) → Small last (x ∷ xs) → 3 ≤ greatest_of (x ∷ xs)
 greatest_stamp last x xs s = omega (arith, s.0)
 
 class_stamp : (g : ℕ) → 3 ≤ g → class_of g ≡ Stamp g

@@ -67,7 +67,7 @@ module _ (shadows : Shadows) (turns : ℕ → Turns) (access : Access) (at : Pla
   none_mapped f None e = refl
   none_mapped f (Some i) e = absurd (cc)
 
-  passes : told (shadows_after access stamp at len shadows) ≡ Ok tt → refused access stamp turns at.offset len ≡ None
+  pub passes : told (shadows_after access stamp at len shadows) ≡ Ok tt → refused access stamp turns at.offset len ≡ None
   passes ok = none_from_ok _ (sym told_next ∙ ok)
 
   after_access : told (shadows_after access stamp at len shadows) ≡ Ok tt → result_unwrap_or (shadows_after access stamp at len shadows) shadows ≡ with_codes shadows at.name (mapped_range (next_code access stamp) at.offset len stands.codes)
@@ -115,7 +115,7 @@ in_size : (size size' end : ℕ) {o : Option ℕ} → o ≡ Some size → o ≡ 
 in_size size size' end p q h = let e : size' ≡ size = cc in omega arith
 
 -- one access that passes
-touch_inv : (sizes : List (ℕ × ℕ)) (shadows : Shadows) (turns : ℕ → ℕ → Turns) (last : ℕ) (access : Access) (at : Place) (len stamp : ℕ) → Inv sizes shadows turns last → last ≤ stamp → InObject sizes at len
+pub touch_inv : (sizes : List (ℕ × ℕ)) (shadows : Shadows) (turns : ℕ → ℕ → Turns) (last : ℕ) (access : Access) (at : Place) (len stamp : ℕ) → Inv sizes shadows turns last → last ≤ stamp → InObject sizes at len
     → told (shadows_after access stamp at len shadows) ≡ Ok tt → Inv sizes (codes_after shadows (Touch access at len stamp)) (λ n o. turns_with n o (turns n o) (Touch access at len stamp)) stamp
 touch_inv sizes shadows turns last access at len stamp inv later object ok =
     let old = inv.least in
@@ -147,7 +147,7 @@ period_stands shadows turns name size last small stands = record {
       get_or-map reset_code stands.codes o 0 0 below ∙ (ap reset_code (stands.each o h) ∙ reset_by last (turns o).wrote (turns o).wrote_before (turns o).read (small o));
 }
 
-period_inv : (sizes : List (ℕ × ℕ)) (shadows : Shadows) (turns : ℕ → ℕ → Turns) (last : ℕ) → Inv sizes shadows turns last → Inv sizes (codes_after shadows EndPeriod) (λ n o. turns_with n o (turns n o) EndPeriod) 3
+pub period_inv : (sizes : List (ℕ × ℕ)) (shadows : Shadows) (turns : ℕ → ℕ → Turns) (last : ℕ) → Inv sizes shadows turns last → Inv sizes (codes_after shadows EndPeriod) (λ n o. turns_with n o (turns n o) EndPeriod) 3
 period_inv sizes shadows turns last inv = record {
   least = omega arith;
   stands = λ name size known. period_stands shadows (turns name) name size last (inv.small name) (inv.stands name size known);

@@ -5,3 +5,4 @@ pub mod ByteCodes
 pub mod RangeEdits
 pub mod Refusals
 pub mod Histories
+pub mod Meanings

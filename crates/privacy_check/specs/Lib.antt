@@ -1,3 +1,4 @@
 pub mod Shadows
 pub mod Views
 pub mod History
+pub mod Meaning
