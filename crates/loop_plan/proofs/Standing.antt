@@ -38,31 +38,41 @@ module _ (f : FunctionV) (number : ℕ) (inside : List InstructionV) (latch : Na
 
   -- what is known of a reduction when its place is looked for
   reduced_at : (p : PhiV) (x : Name) (i : InstructionV) (j : Joining) (g : PhiGuess) → is_integer p.of ≡ true → register_from latch p ≡ Some x → find (defines x) inside ≡ Some i → joining i ≡ Some j → is_reduction inside p j ≡ true
-    → (o : Option ℕ) → position (defines x) (instructions_of f) ≡ o → option_map (λ place. guess.Reduce (site place) j.kind) o ≡ Some g → FitsPhi f number inside latch p g
+      → (o : Option ℕ) → position (defines x) (instructions_of f) ≡ o → option_map (λ place. guess.Reduce (site place) j.kind) o ≡ Some g → FitsPhi f number inside latch p g
   reduced_at p x i j g integer taken defined joins alone None at e = absurd cc
   reduced_at p x i j g integer taken defined joins alone (Some place) at e =
       let own : guess.Reduce (site place) j.kind ≡ g = cc in
       subst (FitsPhi f number inside latch p) own (record {
-        register = x; op = i; parts = j; integer = integer; taken = taken; defined = defined; joins = joins; alone = alone; function = refl; place = at; same = refl
+        register = x;
+        op = i;
+        parts = j;
+        integer = integer;
+        taken = taken;
+        defined = defined;
+        joins = joins;
+        alone = alone;
+        function = refl;
+        place = at;
+        same = refl;
       })
 
   by_op : (p : PhiV) (x : Name) (i : InstructionV) (j : Joining) (g : PhiGuess) → is_integer p.of ≡ true → register_from latch p ≡ Some x → find (defines x) inside ≡ Some i → joining i ≡ Some j
-    → (b : Bool) → is_reduction inside p j ≡ b → (if b then option_map (λ place. guess.Reduce (site place) j.kind) (position (defines x) (instructions_of f)) else None) ≡ Some g → FitsPhi f number inside latch p g
+      → (b : Bool) → is_reduction inside p j ≡ b → (if b then option_map (λ place. guess.Reduce (site place) j.kind) (position (defines x) (instructions_of f)) else None) ≡ Some g → FitsPhi f number inside latch p g
   by_op p x i j g integer taken defined joins false alone e = absurd cc
   by_op p x i j g integer taken defined joins true alone e = reduced_at p x i j g integer taken defined joins alone (position (defines x) (instructions_of f)) refl e
 
   by_instruction : (p : PhiV) (x : Name) (i : InstructionV) (g : PhiGuess) → is_integer p.of ≡ true → register_from latch p ≡ Some x → find (defines x) inside ≡ Some i
-    → (o : Option Joining) → joining i ≡ o → option_and_then (reduced_by f number inside latch p x) o ≡ Some g → FitsPhi f number inside latch p g
+      → (o : Option Joining) → joining i ≡ o → option_and_then (reduced_by f number inside latch p x) o ≡ Some g → FitsPhi f number inside latch p g
   by_instruction p x i g integer taken defined None joins e = absurd cc
   by_instruction p x i g integer taken defined (Some j) joins e = by_op p x i j g integer taken defined joins (is_reduction inside p j) refl e
 
   by_register : (p : PhiV) (x : Name) (g : PhiGuess) → is_integer p.of ≡ true → register_from latch p ≡ Some x
-    → (o : Option InstructionV) → find (defines x) inside ≡ o → option_and_then (reduced_by f number inside latch p x) (option_and_then joining o) ≡ Some g → FitsPhi f number inside latch p g
+      → (o : Option InstructionV) → find (defines x) inside ≡ o → option_and_then (reduced_by f number inside latch p x) (option_and_then joining o) ≡ Some g → FitsPhi f number inside latch p g
   by_register p x g integer taken None defined e = absurd cc
   by_register p x g integer taken (Some i) defined e = by_instruction p x i g integer taken defined (joining i) refl e
 
   by_value : (p : PhiV) (g : PhiGuess) → is_integer p.of ≡ true
-    → (o : Option Name) → register_from latch p ≡ o → option_and_then (reduced f number inside latch p) o ≡ Some g → FitsPhi f number inside latch p g
+      → (o : Option Name) → register_from latch p ≡ o → option_and_then (reduced f number inside latch p) o ≡ Some g → FitsPhi f number inside latch p g
   by_value p g integer None taken e = absurd cc
   by_value p g integer (Some x) taken e = by_register p x g integer taken (find (defines x) inside) refl e
 
@@ -86,14 +96,14 @@ module _ (f : FunctionV) (number : ℕ) (inside : List InstructionV) (latch : Na
     by_line p g (Some line) e = guess_fits p line.guess g e
 
     is_planned : (place : ℕ) (p : PhiV) (x : PhiPlan) → (o : Option PhiGuess) → option_and_then (λ line. guess_of f number inside latch p line.guess) (find (λ line. same_name (name_of line.register) p.to) lines) ≡ o
-      → option_map (λ g. record { phi = site place; guess = g }) o ≡ Some x → IsPlanned f number inside latch place p x
+        → option_map (λ g. record { phi = site place; guess = g }) o ≡ Some x → IsPlanned f number inside latch place p x
     is_planned place p x None e h = absurd cc
     is_planned place p x (Some g) e h =
         let own : record { phi = site place; guess = g } ≡ x = cc in
         subst (IsPlanned f number inside latch place p) own (record { function = refl; at = refl; fits = by_line p g (find (λ line. same_name (name_of line.register) p.to) lines) e })
 
     both : (place : ℕ) (p : PhiV) (ps : List PhiV) (xs : List PhiPlan)
-      → (o : Option PhiPlan) → plan_of f number inside latch lines place p ≡ o → (os : Option (List PhiPlan)) → ((ys : List PhiPlan) → os ≡ Some ys → ArePlanned f number inside latch (suc place) ps ys) → joined o os ≡ Some xs → ArePlanned f number inside latch place (p ∷ ps) xs
+        → (o : Option PhiPlan) → plan_of f number inside latch lines place p ≡ o → (os : Option (List PhiPlan)) → ((ys : List PhiPlan) → os ≡ Some ys → ArePlanned f number inside latch (suc place) ps ys) → joined o os ≡ Some xs → ArePlanned f number inside latch place (p ∷ ps) xs
     both place p ps xs None e os rest h = absurd cc
     both place p ps xs (Some x) e None rest h = absurd cc
     both place p ps xs (Some x) e (Some ys) rest h =
@@ -116,18 +126,28 @@ module _ (f : FunctionV) (number : ℕ) (l : ProfileLoop) where
   Stands r = (r.function ≡ number) × RegionOf f r
 
   module _ (s : Shape) (header : BlockV) (latch : Name)
-    (entered : is_entered_by f s.blocks s.header ≡ true) (returns : latches f s.blocks s.header ≡ s.latch ∷ []) (header_at : slice_get f.blocks s.header ≡ Some header) (latch_at : label_at f s.latch ≡ Some latch) where
+      (entered : is_entered_by f s.blocks s.header ≡ true) (returns : latches f s.blocks s.header ≡ s.latch ∷ []) (header_at : slice_get f.blocks s.header ≡ Some header) (latch_at : label_at f s.latch ≡ Some latch) where
     abbrev inside : List InstructionV
     inside = listed_instructions f s.blocks
 
     test_stands : (phis : List PhiPlan) (r : Region) → ArePlanned f number inside latch (first_of f s.header) (phis_of header) phis
-      → (o : Option CountedTest) → counted_test f s.blocks inside latch (counters_of phis (phis_of header)) s.header s.latch ≡ o → region_with f number l s phis o ≡ Ok r → Stands r
+        → (o : Option CountedTest) → counted_test f s.blocks inside latch (counters_of phis (phis_of header)) s.header s.latch ≡ o → region_with f number l s phis o ≡ Ok r → Stands r
     test_stands phis r planned None test e = absurd cc
     test_stands phis r planned (Some t) test e =
         let own : record { function = number; header = s.header; latch = s.latch; blocks = s.blocks; phis = phis; test = t } ≡ r = cc in
-        subst Stands own (refl, record {
-          header = header; latch = latch; entered = entered; returns = returns; header_at = header_at; latch_at = latch_at; phis = planned; test = test
-        })
+        subst Stands own (
+          refl,
+          record {
+            header = header;
+            latch = latch;
+            entered = entered;
+            returns = returns;
+            header_at = header_at;
+            latch_at = latch_at;
+            phis = planned;
+            test = test;
+          },
+        )
 
     phis_stand : (r : Region) (o : Option (List PhiPlan)) → phi_plans f number inside latch l.phis (first_of f s.header) (phis_of header) ≡ o → with_phis f number l s inside latch header o ≡ Ok r → Stands r
     phis_stand r None planned e = absurd cc
@@ -136,19 +156,19 @@ module _ (f : FunctionV) (number : ℕ) (l : ProfileLoop) where
         (counted_test f s.blocks inside latch (counters_of phis (phis_of header)) s.header s.latch) refl e
 
   parts_stand : (s : Shape) → is_entered_by f s.blocks s.header ≡ true → latches f s.blocks s.header ≡ s.latch ∷ []
-    → (r : Region) (o : Option BlockV) → slice_get f.blocks s.header ≡ o → (n : Option Name) → label_at f s.latch ≡ n → with_parts f number l s o n ≡ Ok r → Stands r
+      → (r : Region) (o : Option BlockV) → slice_get f.blocks s.header ≡ o → (n : Option Name) → label_at f s.latch ≡ n → with_parts f number l s o n ≡ Ok r → Stands r
   parts_stand s entered returns r None at n label e = absurd cc
   parts_stand s entered returns r (Some header) at None label e = absurd cc
   parts_stand s entered returns r (Some header) at (Some latch) label e = phis_stand s header latch entered returns at label r _ refl e
 
   latch_stands : (header : ℕ) (blocks : List ℕ) (r : Region) → is_entered_by f blocks header ≡ true
-    → (o : Option ℕ) → only (latches f blocks header) ≡ o → with_latch f number l header blocks o ≡ Ok r → Stands r
+      → (o : Option ℕ) → only (latches f blocks header) ≡ o → with_latch f number l header blocks o ≡ Ok r → Stands r
   latch_stands header blocks r entered None one e = absurd cc
   latch_stands header blocks r entered (Some latch) one e =
       parts_stand (record { function = number; header = header; latch = latch; blocks = blocks }) entered (only_one (latches f blocks header) latch one) r _ refl _ refl e
 
   entry_stands : (header : ℕ) (blocks : List ℕ) (r : Region) (b : Bool) → is_entered_by f blocks header ≡ b
-    → (if b then with_latch f number l header blocks (only (latches f blocks header)) else Err reason.Entry) ≡ Ok r → Stands r
+      → (if b then with_latch f number l header blocks (only (latches f blocks header)) else Err reason.Entry) ≡ Ok r → Stands r
   entry_stands header blocks r false entered e = absurd cc
   entry_stands header blocks r true entered e = latch_stands header blocks r entered _ refl e
 

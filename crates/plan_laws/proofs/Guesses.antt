@@ -70,7 +70,7 @@ module _ (v : ModuleV) (l : ProfileLoop) where
   apart_other a b e = apart_by a b e (overlap v l b a) refl
 
   any_or : (p : MemGuess → Bool) (g x : MemGuess) (xs : List MemGuess) → (list_any p xs ≡ false → list_any p (insert v l g xs) ≡ false) → p g ≡ false → p x ≡ false → list_any p xs ≡ false
-    → (b : Bool) → list_any p (if b then g ∷ x ∷ xs else x ∷ insert v l g xs) ≡ false
+      → (b : Bool) → list_any p (if b then g ∷ x ∷ xs else x ∷ insert v l g xs) ≡ false
   any_or p g x xs rest own one none true = neither (p g) (p x || list_any p xs) own (neither (p x) (list_any p xs) one none)
   any_or p g x xs rest own one none false = neither (p x) (list_any p (insert v l g xs)) one (rest none)
 
@@ -87,7 +87,7 @@ module _ (v : ModuleV) (l : ProfileLoop) where
       any_insert p g (sort v l gs) two.0 (any_sort p gs two.1)
 
   apart_or : (g x : MemGuess) (xs : List MemGuess) → (list_any (overlap v l g) xs ≡ false → are_apart v l xs ≡ true → are_apart v l (insert v l g xs) ≡ true)
-    → list_any (overlap v l g) (x ∷ xs) ≡ false → are_apart v l (x ∷ xs) ≡ true → (b : Bool) → are_apart v l (if b then g ∷ x ∷ xs else x ∷ insert v l g xs) ≡ true
+      → list_any (overlap v l g) (x ∷ xs) ≡ false → are_apart v l (x ∷ xs) ≡ true → (b : Bool) → are_apart v l (if b then g ∷ x ∷ xs else x ∷ insert v l g xs) ≡ true
   apart_or g x xs rest none apart true = both (not (list_any (overlap v l g) (x ∷ xs))) (are_apart v l (x ∷ xs)) (opposite _ none) apart
   apart_or g x xs rest none apart false =
       let two = or_both (overlap v l g x) (list_any (overlap v l g) xs) none in

@@ -5,3 +5,5 @@ pub mod Laws
 pub mod Guesses
 pub mod Reductions
 pub mod Loops
+pub mod Places
+pub mod Flows

@@ -57,8 +57,8 @@ module _ (v : ModuleV) where
   Behind earlier number ls r = Has (plan_from v earlier number ls).loops r
 
   later_or : (earlier : List LoopPlan) (number : ℕ) (l : ProfileLoop) (ls : List ProfileLoop) (p r : LoopPlan)
-    → ((more : List LoopPlan) → Has (earlier ++ more) p → Behind (earlier ++ more) (suc number) ls r → Agree p r) → Has earlier p
-    → (o : Result LoopPlan Reason) → loop_plan v earlier number l ≡ o → Has (with_answer number o (plan_from v (earlier ++ planned o) (suc number) ls)).loops r → Agree p r
+      → ((more : List LoopPlan) → Has (earlier ++ more) p → Behind (earlier ++ more) (suc number) ls r → Agree p r) → Has earlier p
+      → (o : Result LoopPlan Reason) → loop_plan v earlier number l ≡ o → Has (with_answer number o (plan_from v (earlier ++ planned o) (suc number) ls)).loops r → Agree p r
   later_or earlier number l ls p r rest before (Err e) is h = rest [] (in_front earlier [] p before) h
   later_or earlier number l ls p r rest before (Ok x) is (inl s) =
       subst (Agree p) s (agrees_before earlier number l p x (facts v earlier number l x is) before)
@@ -70,9 +70,9 @@ module _ (v : ModuleV) where
       later_or earlier number l ls p r (λ more. later_agrees (earlier ++ more) (suc number) ls p r) before (loop_plan v earlier number l) refl h
 
   agree_or : (earlier : List LoopPlan) (number : ℕ) (l : ProfileLoop) (ls : List ProfileLoop) (p r : LoopPlan)
-    → ((more : List LoopPlan) → Behind (earlier ++ more) (suc number) ls p → Behind (earlier ++ more) (suc number) ls r → Agree p r)
-    → (o : Result LoopPlan Reason) → loop_plan v earlier number l ≡ o
-    → Has (with_answer number o (plan_from v (earlier ++ planned o) (suc number) ls)).loops p → Has (with_answer number o (plan_from v (earlier ++ planned o) (suc number) ls)).loops r → Agree p r
+      → ((more : List LoopPlan) → Behind (earlier ++ more) (suc number) ls p → Behind (earlier ++ more) (suc number) ls r → Agree p r)
+      → (o : Result LoopPlan Reason) → loop_plan v earlier number l ≡ o
+      → Has (with_answer number o (plan_from v (earlier ++ planned o) (suc number) ls)).loops p → Has (with_answer number o (plan_from v (earlier ++ planned o) (suc number) ls)).loops r → Agree p r
   agree_or earlier number l ls p r rest (Err e) is h g = rest [] h g
   agree_or earlier number l ls p r rest (Ok x) is (inl s) (inl t) = subst (λ y. Agree y r) s (subst (Agree x) t (agrees_alone earlier number l x (facts v earlier number l x is)))
   agree_or earlier number l ls p r rest (Ok x) is (inl s) (inr g) = subst (λ y. Agree y r) s (later_agrees (earlier ++ x ∷ []) (suc number) ls x r (behind earlier (x ∷ []) x (inl refl)) g)
@@ -95,19 +95,26 @@ module _ (v : ModuleV) where
 
   next : (number : ℕ) (l : ProfileLoop) (ls : List ProfileLoop) (p : LoopPlan) → Of (suc number) ls p → Of number (l ∷ ls) p
   next number l ls p x = record {
-    loop = x.loop; place = suc x.place; earlier = x.earlier; at = x.at;
+    loop = x.loop;
+    place = suc x.place;
+    earlier = x.earlier;
+    at = x.at;
     number_is = (let e : suc number + x.place ≡ number + suc x.place = omega arith in x.number_is ∙ e);
     planned_is = x.planned_is;
   }
 
   of_or : (earlier : List LoopPlan) (number : ℕ) (l : ProfileLoop) (ls : List ProfileLoop) (p : LoopPlan) → ((more : List LoopPlan) → Behind (earlier ++ more) (suc number) ls p → Of (suc number) ls p)
-    → (o : Result LoopPlan Reason) → loop_plan v earlier number l ≡ o → Has (with_answer number o (plan_from v (earlier ++ planned o) (suc number) ls)).loops p → Of number (l ∷ ls) p
+      → (o : Result LoopPlan Reason) → loop_plan v earlier number l ≡ o → Has (with_answer number o (plan_from v (earlier ++ planned o) (suc number) ls)).loops p → Of number (l ∷ ls) p
   of_or earlier number l ls p rest (Err e) is h = next number l ls p (rest [] h)
   of_or earlier number l ls p rest (Ok x) is (inl s) =
       let f = facts v earlier number l x is in
       let zero_more : number + 0 ≡ number = omega arith in
       subst (Of number (l ∷ ls)) s (record {
-        loop = l; place = 0; earlier = earlier; at = refl; number_is = f.number_is ∙ sym zero_more;
+        loop = l;
+        place = 0;
+        earlier = earlier;
+        at = refl;
+        number_is = f.number_is ∙ sym zero_more;
         planned_is = subst (λ k. loop_plan v earlier k l ≡ Ok x) (sym f.number_is) is;
       })
   of_or earlier number l ls p rest (Ok x) is (inr h) = next number l ls p (rest (x ∷ []) h)

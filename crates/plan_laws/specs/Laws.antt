@@ -11,7 +11,7 @@ use Rattle.ir_rules.specs.Seen.{ModuleV}
 use Rattle.profile_lines.specs.declared.profile.ProfileLoop.{ProfileLoop}
 use Rattle.profile_lines.specs.declared.profile.Profile.{Profile}
 use Rattle.loop_plan.specs.declared.plan.LoopPlan.{LoopPlan}
-use Rattle.loop_plan.specs.Heaps.{Used, uses, heap_of, tag_of, element_kind, size_of, are_apart}
+use Rattle.loop_plan.specs.Heaps.{Used, Flow, uses, flows, is_covered, heap_of, tag_of, element_kind, size_of, are_apart}
 use Rattle.loop_plan.specs.Plans.{loop_plan, plan_of}
 
 -- x is one of these
@@ -65,3 +65,9 @@ abbrev pub LoopsAgree : Type 0
 LoopsAgree =
     (v : ModuleV) (q : Profile) (p r : LoopPlan) (own other : AllocSite × Tag) → Has (plan_of v q).loops p → Has (plan_of v q).loops r → Has p.tags own → Has r.tags other → own.0 ≡ other.0
     → own.1 ≡ other.1
+
+-- What flows is guessed, unless it dies in its turn or is a reduction: a flow that no guess covers leaves its loop out.
+abbrev pub FlowsAreGuessed : Type 0
+FlowsAreGuessed =
+    (v : ModuleV) (q : Profile) (l : ProfileLoop) (p : LoopPlan) (d : Flow) → IsPlanOf v q l p → Has (flows v l) d → is_covered v l d ≡ false
+    → (heap_of v l d.object ≡ Some ShortLived) ⊎ (heap_of v l d.object ≡ Some Reduction)

@@ -1,7 +1,7 @@
 //! Laws of plans, for who relies on what a plan says of slots, sites and guesses. They are proved, and no code calls them.
 #![tactic(auto)]
 
-ghost use Rattle.plan_laws.specs.Laws.{EachHasItsLoop, SlotsTouchTheirClass, SlotsHaveOneClass, TagsAreOfSites, GuessesAreInside, GuessesAreApart, ReductionsHaveOneKind, LoopsAgree};
+ghost use Rattle.plan_laws.specs.Laws.{EachHasItsLoop, SlotsTouchTheirClass, SlotsHaveOneClass, TagsAreOfSites, GuessesAreInside, GuessesAreApart, ReductionsHaveOneKind, LoopsAgree, FlowsAreGuessed};
 
 /// A plan is that of a loop of the profile.
 pub fn each_has_its_loop()
@@ -41,4 +41,9 @@ pub fn reductions_have_one_kind()
 /// One tag a site over all planned loops.
 pub fn loops_agree()
     ensures { LoopsAgree }
+{}
+
+/// What flows from turn to turn.
+pub fn flows_are_guessed()
+    ensures { FlowsAreGuessed }
 {}

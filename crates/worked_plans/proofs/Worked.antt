@@ -53,4 +53,3 @@ list_guesses_overlap = refl
 pub list_is_mixed : ListIsMixed
 unfolding ListIsMixed plan_of loop_plan region_of is_phi result_of uses targets same_constant known named width_of width_behind extreme
 list_is_mixed = refl
-

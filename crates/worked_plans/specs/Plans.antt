@@ -77,8 +77,8 @@ counter op by = record {
   types = [];
   globals = variable (codes "n") i32 (IntegerC (record { width = 32; bits = 100 })) ∷ [];
   functions = looping 4 []
-    (block (codes "body") (tree.Load (called (codes "x")) i32 (global (codes "n")) ∷ tree.Binary (called (codes "y")) op no_flags i32 (register (codes "x")) (number by) ∷ tree.Store i32 (register (codes "y")) (global (codes "n")) ∷ jump (codes "latch") ∷ []) ∷ [])
-    ends_with_0 ∷ [];
+      (block (codes "body") (tree.Load (called (codes "x")) i32 (global (codes "n")) ∷ tree.Binary (called (codes "y")) op no_flags i32 (register (codes "x")) (number by) ∷ tree.Store i32 (register (codes "y")) (global (codes "n")) ∷ jump (codes "latch") ∷ []) ∷ [])
+      ends_with_0 ∷ [];
 }
 
 -- what was seen of it
@@ -130,8 +130,8 @@ CounterWithoutPhi = plan_of (counter bin.Sub 1) (profiled [] [] [] [] []) ≡ le
 unfoldable pub CounterFlows : Type 0
 CounterFlows =
     plan_of (counter bin.Sub 1)
-      (profiled (phi_line (codes "i") (word.Step (pos 1)) ∷ []) (use_line 4 (Global (named (codes "n"))) ∷ use_line 6 (Global (named (codes "n"))) ∷ []) []
-        (record { object = Global (named (codes "n")); offset = 0; length = 4 } ∷ []) [])
+    (profiled (phi_line (codes "i") (word.Step (pos 1)) ∷ []) (use_line 4 (Global (named (codes "n"))) ∷ use_line 6 (Global (named (codes "n"))) ∷ []) []
+    (record { object = Global (named (codes "n")); offset = 0; length = 4 } ∷ []) [])
     ≡ left (reason.Unrestricted (site.Global 0))
 
 -- An object that is not there.
@@ -148,8 +148,8 @@ summing = record {
   types = [];
   globals = [];
   functions = looping 10 (tree.Phi (called (codes "s")) i32 (arm (number 0) (codes "entry") ∷ arm (register (codes "s2")) (codes "latch") ∷ []) ∷ [])
-    (block (codes "body") (tree.Binary (called (codes "s2")) bin.Add nsw i32 (register (codes "s")) (register (codes "i")) ∷ jump (codes "latch") ∷ []) ∷ [])
-    (tree.Return (Some (record { of = i32; value = register (codes "s") })) ∷ []) ∷ [];
+      (block (codes "body") (tree.Binary (called (codes "s2")) bin.Add nsw i32 (register (codes "s")) (register (codes "i")) ∷ jump (codes "latch") ∷ []) ∷ [])
+      (tree.Return (Some (record { of = i32; value = register (codes "s") })) ∷ []) ∷ [];
 }
 
 unfoldable pub SumIsReduced : Type 0
@@ -182,21 +182,21 @@ listing = record {
   types = [];
   globals = pointer_global (codes "list") ∷ pointer_global (codes "tail") ∷ [];
   functions =
-    looping 6 []
+      looping 6 []
       (block (codes "body") (
-        call (Some (called (codes "p"))) PtrV (codes "malloc") (record { of = IntV 64; value = Constant (IntegerC (record { width = 64; bits = 16 })) })
-        ∷ tree.Load (called (codes "h")) PtrV (global (codes "list"))
-        ∷ tree.Store PtrV (register (codes "h")) (register (codes "p"))
-        ∷ tree.Store PtrV (register (codes "p")) (global (codes "list"))
-        ∷ tree.Store PtrV (register (codes "p")) (global (codes "tail"))
-        ∷ tree.Load (called (codes "g")) PtrV (global (codes "list"))
-        ∷ tree.Load (called (codes "n")) PtrV (register (codes "g"))
-        ∷ tree.Store PtrV (register (codes "n")) (global (codes "list"))
-        ∷ call None VoidV (codes "free") (record { of = PtrV; value = register (codes "g") })
-        ∷ jump (codes "latch") ∷ []) ∷ [])
+      call (Some (called (codes "p"))) PtrV (codes "malloc") (record { of = IntV 64; value = Constant (IntegerC (record { width = 64; bits = 16 })) })
+      ∷ tree.Load (called (codes "h")) PtrV (global (codes "list"))
+      ∷ tree.Store PtrV (register (codes "h")) (register (codes "p"))
+      ∷ tree.Store PtrV (register (codes "p")) (global (codes "list"))
+      ∷ tree.Store PtrV (register (codes "p")) (global (codes "tail"))
+      ∷ tree.Load (called (codes "g")) PtrV (global (codes "list"))
+      ∷ tree.Load (called (codes "n")) PtrV (register (codes "g"))
+      ∷ tree.Store PtrV (register (codes "n")) (global (codes "list"))
+      ∷ call None VoidV (codes "free") (record { of = PtrV; value = register (codes "g") })
+      ∷ jump (codes "latch") ∷ []) ∷ [])
       ends_with_0
-    ∷ declared (codes "malloc") PtrV (IntV 64 ∷ [])
-    ∷ declared (codes "free") VoidV (PtrV ∷ []) ∷ [];
+      ∷ declared (codes "malloc") PtrV (IntV 64 ∷ [])
+      ∷ declared (codes "free") VoidV (PtrV ∷ []) ∷ [];
 }
 
 abbrev pub of_list : ObjectName

@@ -65,12 +65,12 @@ looping turns phis body last = record {
   params = [];
   variadic = false;
   blocks =
-    block (codes "entry") (jump (codes "head") ∷ [])
-    ∷ block (codes "head") (counting ∷ phis ++ tree.Compare (called (codes "c")) Slt word (register (codes "i")) (number turns) ∷ tree.Branch (register (codes "c")) (called (codes "body")) (called (codes "done")) ∷ [])
-    ∷ body
-    ++ block (codes "latch") (tree.Binary (called (codes "i2")) Add no_flags word (register (codes "i")) (number 1) ∷ jump (codes "head") ∷ [])
-    ∷ block (codes "done") last
-    ∷ [];
+      block (codes "entry") (jump (codes "head") ∷ [])
+      ∷ block (codes "head") (counting ∷ phis ++ tree.Compare (called (codes "c")) Slt word (register (codes "i")) (number turns) ∷ tree.Branch (register (codes "c")) (called (codes "body")) (called (codes "done")) ∷ [])
+      ∷ body
+      ++ block (codes "latch") (tree.Binary (called (codes "i2")) Add no_flags word (register (codes "i")) (number 1) ∷ jump (codes "head") ∷ [])
+      ∷ block (codes "done") last
+      ∷ [];
   declared = false;
 }
 
