@@ -1,7 +1,6 @@
 -- The first bytes of globals, and the memory in which a program starts.
 use Rattle.std.specs.Prelude.{ℕ, ◌≤◌, ◌+◌, ◌-◌, ◌%◌, max, Bool, true, false, List, [], ◌∷◌, ◌++◌, length, map, replicate, Option}
 use Rattle.std.specs.Option.{option_map_or}
-use Rattle.int_num.specs.Bytes as number
 use Rattle.pv_base.specs.declared.place.AllocSite.TheVariants as site
 use Rattle.ir_tree.specs.declared.items.Global.{Global as Variable}
 use Rattle.ir_tree.specs.Trees.{TypeV}
@@ -12,29 +11,21 @@ use Rattle.ir_tree.specs.Modules.{Items, types_of}
 use Rattle.ir_code.specs.declared.op.Fixed.{Fixed}
 use Rattle.ir_code.specs.declared.op.Fixed.TheVariants as fixed
 use Rattle.ir_code.specs.Fixed.{fixed_of}
-use Rattle.mem_image.specs.declared.object.Pointer.{Pointer}
 use Rattle.mem_image.specs.declared.object.Pointer.TheVariants.{Obj, Fun}
 use Rattle.mem_image.specs.declared.object.Byte.{Byte}
-use Rattle.mem_image.specs.declared.object.Byte.TheVariants.{Num, Ptr}
+use Rattle.mem_image.specs.declared.object.Byte.TheVariants.{Num}
 use Rattle.mem_image.specs.declared.object.Kind.TheVariants as kind
 use Rattle.mem_image.specs.declared.object.Object.{Object}
 use Rattle.pv_base.specs.Limits.{live_limit}
+pub use Rattle.mem_image.specs.Bytes.{number_bytes as low_bytes, pointer_bytes}
 use Rattle.mem_image.specs.Picture.{Picture, live, name_limit}
 
 abbrev pub zeros : ℕ → List Byte
 zeros n = replicate n (Num 0)
 
--- so many bytes of a number, the low ones first
-abbrev pub low_bytes : ℕ → ℕ → List Byte
-low_bytes n bits = map Num (number.low_bytes n bits)
-
 -- how many bytes an integer of a width takes
 abbrev pub byte_count : ℕ → ℕ
 byte_count width = option_map_or (λ l. l.size) (int_layout width) 0
-
--- the eight bytes of a pointer
-abbrev pub pointer_bytes : Pointer → List Byte
-pointer_bytes p = map (λ part. Ptr part p) (0 ∷ 1 ∷ 2 ∷ 3 ∷ 4 ∷ 5 ∷ 6 ∷ 7 ∷ [])
 
 -- the bytes of what a register may hold; an address that leaves null or a function has those of null
 abbrev pub fixed_bytes : Fixed → List Byte
