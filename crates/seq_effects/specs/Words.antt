@@ -1,6 +1,5 @@
 -- A value as bytes of memory, and bytes as a value (LLVM Language Reference, "Memory Access and Addressing Operations").
-use Rattle.std.specs.Prelude.{ℕ, ◌+◌, ◌*◌, ◌^◌, ◌==◌, ◌&&◌, nat_lt, List, [], ◌∷◌, map, Option, None, Some, option_map, Result, Ok, Err, Bool, true, false, if◌then◌else◌}
-use Rattle.int_num.specs.Bytes.{low_bytes}
+use Rattle.std.specs.Prelude.{ℕ, ◌+◌, ◌*◌, ◌^◌, ◌==◌, ◌&&◌, nat_lt, List, [], ◌∷◌, Option, None, Some, option_map, Result, Ok, Err, Bool, true, false, if◌then◌else◌}
 use Rattle.int_num.specs.Operations.{of_bits}
 use Rattle.ir_code.specs.declared.op.Scalar.{Scalar}
 use Rattle.ir_code.specs.declared.op.Scalar.TheVariants as scalar
@@ -8,6 +7,7 @@ use Rattle.mem_image.specs.declared.object.Pointer.{Pointer as Address}
 use Rattle.mem_image.specs.declared.object.Pointer.TheVariants.{Null, Obj, Fun}
 use Rattle.mem_image.specs.declared.object.Byte.{Byte}
 use Rattle.mem_image.specs.declared.object.Byte.TheVariants.{Unset, Num, Ptr}
+pub use Rattle.mem_image.specs.Bytes.{number_bytes, pointer_bytes}
 use Rattle.mem_image.specs.declared.fault.Trap.{Trap}
 use Rattle.mem_image.specs.declared.fault.Trap.TheVariants.{UnsetByte, ByteKind, Unreachable}
 use Rattle.seq_effects.specs.declared.state.Value.{Value}
@@ -25,14 +25,6 @@ word_length (scalar.Int width) =
     else (if width == 64 then Some 8
     else None))))
 word_length scalar.Pointer = Some 8
-
--- so many bytes of a number, the least first
-abbrev pub number_bytes : ℕ → ℕ → List Byte
-number_bytes len n = map Num (low_bytes len n)
-
--- the eight bytes of a pointer, each of which knows which it is
-abbrev pub pointer_bytes : Address → List Byte
-pointer_bytes p = Ptr 0 p ∷ Ptr 1 p ∷ Ptr 2 p ∷ Ptr 3 p ∷ Ptr 4 p ∷ Ptr 5 p ∷ Ptr 6 p ∷ Ptr 7 p ∷ []
 
 -- null is eight zeros
 abbrev pub address_bytes : Address → List Byte
