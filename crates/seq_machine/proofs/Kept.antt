@@ -175,7 +175,7 @@ more_fits code f ok more = go (function_at code f) refl (block_at code f) refl m
         none None r lt = omega arith
         none (Some b) r lt = cc
     go (Some g) q None r lt = absurd (omega arith)
-    go (Some g) q (Some b) r lt = let small = ok f.function f.block g b q (rw q at r) in omega arith
+    go (Some g) q (Some b) r lt = let small = ok f.function g q f.block b (rw q at r) in omega arith
 
 -- the register of the result is there
 pub result_there : (f : Frame) (types : List Scalar) (to : Option ℕ) (v : Option Value) → AreOf types f.registers → HoldsResult types to v → IfSome to (λ r. IfSome v (λ w. r < length f.registers))

@@ -1,11 +1,11 @@
 -- The frames of a state of a module.
-use Rattle.std.specs.Prelude.{ℕ, ◌+◌, ◌<◌, ◌≤◌, ◌≡◌, ◌^◌, pos, List, length, slice_get, Option, None, Some, true}
+use Rattle.std.specs.Prelude.{ℕ, ◌+◌, ◌<◌, ◌≤◌, ◌≡◌, pos, List, length, slice_get, Option, None, Some, true}
 use Rattle.ir_code.specs.declared.op.Scalar.{Scalar}
 use Rattle.ir_code.specs.declared.op.Op.{Op}
 use Rattle.ir_code.specs.declared.op.Op.TheVariants.{Call, CallPointer}
-use Rattle.ir_code.specs.declared.code.BlockCode.{BlockCode}
 use Rattle.ir_code.specs.declared.code.FunctionCode.{FunctionCode}
 use Rattle.ir_code.specs.declared.code.Code.{Code}
+pub use Rattle.ir_code.specs.Fitting.{CodeFits as CodeOk}
 use Rattle.mem_image.specs.declared.object.Pointer.TheVariants.{Obj}
 use Rattle.seq_effects.specs.declared.state.Value.{Value}
 use Rattle.seq_effects.specs.declared.state.Value.TheVariants.{Pointer}
@@ -15,10 +15,6 @@ use Rattle.seq_effects.specs.declared.state.Effect.TheVariants.{Next, Give, Keep
 use Rattle.seq_effects.specs.Values.{AreOf, Holds, HoldsIf}
 use Rattle.seq_effects.specs.Flow.{receives, has_type, Enters, IsResult}
 use Rattle.seq_machine.specs.Acts.{blocks_of, types_of, ops_of, phis_of, function_at, block_at, op_at}
-
--- what the code must have: the numbers of instructions are below 2^32
-abbrev pub CodeOk : Code → Type 0
-CodeOk code = (k b : ℕ) (g : FunctionCode) (block : BlockCode) → slice_get code.functions k ≡ Some g → slice_get g.blocks b ≡ Some block → block.first + length block.ops < 2 ^ 32
 
 -- the frame stands at an instruction of the code that is no phi, and its registers have their types
 pub record FrameOf (code : Code) (f : Frame) : Type 0 where

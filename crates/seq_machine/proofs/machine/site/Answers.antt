@@ -12,7 +12,7 @@ at-block-requires c = rw c.at-function.ensures at ((c.requires.frames.each _ _ c
 pub overflow_add-result : goal.overflow_add-result
 overflow_add-result c =
     let place = rw (c.at-function.ensures, c.at-block.ensures) at ((c.requires.frames.each _ _ c.at-frame.ensures).place) in
-    let most = c.requires.code c.at-frame.result.now.function c.at-frame.result.now.block c.at-function.result.now c.at-block.result.now c.at-function.ensures c.at-block.ensures in
+    let most = c.requires.code c.at-frame.result.now.function c.at-function.result.now c.at-function.ensures c.at-frame.result.now.block c.at-block.result.now c.at-block.ensures in
     omega (arith, place, most)
 
 pub returns : goal.returns
