@@ -1,0 +1,7 @@
+use Rattle.std.proofs.Common.{◌≡◌, ◌++◌, ◌+◌}
+use Rattle.load_gen.specs.Numbers.{each}
+use Rattle.load_gen.specs.Module.{case_text}
+use Rattle.load_gen.proofs.main_text.put_cases.Given as goal
+
+abbrev pub invariant-loop-j : goal.invariant-loop-j
+invariant-loop-j l = l.to ≡ l.fn.to ++ each (λ j. case_text (j + 1)) l.j
