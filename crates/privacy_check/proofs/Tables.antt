@@ -2,14 +2,14 @@
 use Rattle.std.proofs.Common.{◌≡◌, ℕ, ◌==◌, List, [], ◌∷◌, map, Option, Some, None, option_map, Bool, true, false, cond, Result, Ok, Err, refl, sym, ap, ◌∙◌, arith}
 use Rattle.std.specs.Result.{result_unwrap_or}
 use Rattle.std.proofs.lemmas.Map.Made.{lookup-map_values}
-use Rattle.std.specs.Map.{lookup}
+use Rattle.std.specs.Map.{lookup, keys_of}
 use Rattle.std.specs.Ordering.{nat_cmp}
 use Rattle.std.specs.BTreeMap.{is_at}
 use Rattle.pv_base.specs.declared.place.Place.{Place}
 use Rattle.privacy_check.specs.declared.access.Access.{Access}
 use Rattle.privacy_check.specs.declared.access.BadCode.{BadCode}
 use Rattle.privacy_check.specs.Shadows.{Shadows, with_codes, told, kept_in, object_after, shadows_after}
-use Rattle.privacy_check.specs.Views.{Table, table_of, codes_of, Has}
+use Rattle.privacy_check.specs.Views.{Table, table_of, codes_of, names_of, Has}
 
 pub same_test : (k n : ℕ) → is_at (nat_cmp k) n ≡ (n == k)
 same_test k n = grind arith
@@ -82,3 +82,8 @@ made_more {V} codes before after key name w had new updates was is =
   where
     flip : (a b : ℕ) → (a == b) ≡ (b == a)
     flip a b = grind arith
+
+-- the names of a map are those of its table
+pub names_of-table_of : {V : Type 0} (codes : V → List ℕ) (entries : List (ℕ × V)) → keys_of entries ≡ names_of (table_of codes entries)
+names_of-table_of codes [] = refl
+names_of-table_of codes (e ∷ es) = ap (λ (ns : List ℕ). e.0 ∷ ns) (names_of-table_of codes es)

@@ -17,3 +17,7 @@ codes_of table = λ name. lookup (λ n. n == name) table
 -- the table has these codes, name by name
 abbrev pub Has : Table → Shadows → Type 0
 Has table shadows = (name : ℕ) → codes_of table name ≡ shadows name
+
+-- the names of the objects
+abbrev pub names_of : Table → List ℕ
+names_of table = map (λ e. e.0) table

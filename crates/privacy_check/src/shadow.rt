@@ -1,9 +1,11 @@
 //! The shadow of a worker's private objects.
-ghost use Rattle.std.specs.Prelude.{◌≡◌, ◌≤◌, ◌==◌, ℕ, [], IfOk, IsTrue, map, replicate};
+ghost use Rattle.std.specs.Prelude.{◌≡◌, ◌≤◌, ◌==◌, ℕ, [], IfOk, IsTrue, map, replicate, option_map};
 ghost use Rattle.std.specs.List.{IsDistinct};
+ghost use Rattle.std.specs.List.Sorted.{IsStrictlySortedBy};
+ghost use Rattle.std.specs.Ordering.{nat_cmp};
 ghost use Rattle.std.specs.Result.{result_unwrap_or};
 ghost use Rattle.privacy_check.specs.Shadows.{MayAccess, untouched, next_period, shadows_after, told};
-ghost use Rattle.privacy_check.specs.Views.{codes_of, Has};
+ghost use Rattle.privacy_check.specs.Views.{codes_of, names_of, Has};
 
 use crate::access::{Access, BadCode};
 use crate::object::{has_range, touch_range};
@@ -76,6 +78,28 @@ impl Shadow {
         ensures codes { Has self.new (result_unwrap_or (shadows_after Access.Write beta at len (codes_of self.old)) (codes_of self.old)) }
     {
         self.touch(Access::Write, at, len, beta)
+    }
+
+    /// The codes of the object of that name, in the order of its bytes.
+    pub fn codes(&self, name: u32) -> Option<&[Code]>
+        ensures { option_map (λ codes. codes.now) result ≡ codes_of self.now name }
+    {
+        match self.objects.get(&name) {
+            Some(codes) => Some(codes.as_slice()),
+            None => None,
+        }
+    }
+
+    /// The names of the objects, rising, once each.
+    pub fn names(&self, alloc: Global) -> Result<List<u32>, Memory>
+        ensures all { IfOk result (λ names. names ≡ names_of self.now) }
+        ensures rising { IfOk result (λ names. IsStrictlySortedBy nat_cmp names) }
+    {
+        let mut names = List::new(alloc);
+        for name in self.objects.keys() {
+            names.push(*name)?;
+        }
+        Ok(names)
     }
 
     // An access to a range.
