@@ -111,19 +111,27 @@ fn one_hit_is_found_at_each_length(rt: HostRuntime) {
     assert_eq!(rt; first_missed(&rt, rt.alloc(), HITS), None);
 }
 
-/// An access: its offset, length and stamp, and its answer.
-type Call = (Access, u64, u64, Code, Result<(), BadCode>);
+/// An access: its offset, length and stamp, its answer, and the codes after it.
+type Call = (Access, u64, u64, Code, Result<(), BadCode>, [Code; 4]);
 
-/// The first call whose answer is another.
+/// The first call whose answer is another, or that leaves other codes.
 fn first_other_answer(rt: &impl Abort, shadow: &mut Shadow, calls: &[Call]) -> Option<usize> {
     for number in 0..calls.len() {
-        let (access, offset, len, beta, answer) = calls[number];
+        let (access, offset, len, beta, answer, codes) = calls[number];
         let at = Place { name: 0, offset };
-        if touch(rt, shadow, access, at, len, beta) != answer {
+        if touch(rt, shadow, access, at, len, beta) != answer || !has_codes(shadow, codes) {
             return Some(number);
         }
     }
     None
+}
+
+/// Whether the object of name 0 has these codes.
+fn has_codes(shadow: &Shadow, codes: [Code; 4]) -> bool {
+    match shadow.codes(0) {
+        Some(found) => found == codes.as_slice(),
+        None => false,
+    }
 }
 
 /// An access that may be asked for.
@@ -145,25 +153,53 @@ fn touch(
 /// The calls of each period.
 const PERIODS: &[&[Call]] = &[
     &[
-        (Access::Write, 0, 2, 3, Ok(())),
-        (Access::Read, 1, 2, 3, Ok(())),
-        (Access::Write, 2, 1, 4, Err(BadCode { offset: 2, code: 2 })),
-        (Access::Read, 0, 1, 4, Err(BadCode { offset: 0, code: 3 })),
+        (Access::Write, 0, 2, 3, Ok(()), [3, 3, 0, 0]),
+        (Access::Read, 1, 2, 3, Ok(()), [3, 3, 2, 0]),
+        (
+            Access::Write,
+            2,
+            1,
+            4,
+            Err(BadCode { offset: 2, code: 2 }),
+            [3, 3, 2, 0],
+        ),
+        (
+            Access::Read,
+            0,
+            1,
+            4,
+            Err(BadCode { offset: 0, code: 3 }),
+            [3, 3, 2, 0],
+        ),
     ],
     &[
-        (Access::Read, 0, 1, 3, Err(BadCode { offset: 0, code: 1 })),
-        (Access::Read, 2, 1, 3, Ok(())),
-        (Access::Write, 0, 4, 3, Err(BadCode { offset: 2, code: 2 })),
+        (
+            Access::Read,
+            0,
+            1,
+            3,
+            Err(BadCode { offset: 0, code: 1 }),
+            [1, 1, 0, 0],
+        ),
+        (Access::Read, 2, 1, 3, Ok(()), [1, 1, 2, 0]),
+        (
+            Access::Write,
+            0,
+            4,
+            3,
+            Err(BadCode { offset: 2, code: 2 }),
+            [1, 1, 2, 0],
+        ),
     ],
 ];
 
 /// The same with the least and the greatest stamp, and with writes that are old in two periods.
 const STAMPS: &[&[Call]] = &[
     &[
-        (Access::Write, 0, 1, 3, Ok(())),
-        (Access::Write, 2, 1, 65_534, Ok(())),
-        (Access::Write, 0, 1, 65_535, Ok(())),
-        (Access::Read, 0, 2, 65_535, Ok(())),
+        (Access::Write, 0, 1, 3, Ok(()), [3, 0, 0, 0]),
+        (Access::Write, 2, 1, 65_534, Ok(()), [3, 0, 65_534, 0]),
+        (Access::Write, 0, 1, 65_535, Ok(()), [65_535, 0, 65_534, 0]),
+        (Access::Read, 0, 2, 65_535, Ok(()), [65_535, 2, 65_534, 0]),
         (
             Access::Read,
             1,
@@ -173,6 +209,7 @@ const STAMPS: &[&[Call]] = &[
                 offset: 2,
                 code: 65_534,
             }),
+            [65_535, 2, 65_534, 0],
         ),
         (
             Access::Write,
@@ -180,23 +217,39 @@ const STAMPS: &[&[Call]] = &[
             2,
             65_535,
             Err(BadCode { offset: 1, code: 2 }),
+            [65_535, 2, 65_534, 0],
         ),
     ],
     &[
-        (Access::Read, 0, 1, 3, Err(BadCode { offset: 0, code: 1 })),
-        (Access::Write, 0, 1, 3, Ok(())),
-        (Access::Read, 0, 2, 3, Ok(())),
+        (
+            Access::Read,
+            0,
+            1,
+            3,
+            Err(BadCode { offset: 0, code: 1 }),
+            [1, 0, 1, 0],
+        ),
+        (Access::Write, 0, 1, 3, Ok(()), [3, 0, 1, 0]),
+        (Access::Read, 0, 2, 3, Ok(()), [3, 2, 1, 0]),
     ],
     &[
-        (Access::Read, 2, 1, 3, Err(BadCode { offset: 2, code: 1 })),
+        (
+            Access::Read,
+            2,
+            1,
+            3,
+            Err(BadCode { offset: 2, code: 1 }),
+            [1, 0, 1, 0],
+        ),
         (
             Access::Read,
             0,
             1,
             65_535,
             Err(BadCode { offset: 0, code: 1 }),
+            [1, 0, 1, 0],
         ),
-        (Access::Write, 1, 2, 3, Ok(())),
+        (Access::Write, 1, 2, 3, Ok(()), [1, 3, 3, 0]),
     ],
 ];
 
@@ -204,6 +257,20 @@ const STAMPS: &[&[Call]] = &[
 fn one_object(alloc: Global) -> Result<Shadow, Memory> {
     let sizes = List::from_slice(alloc, &[(0u32, 4u64)])?;
     Shadow::new(alloc, &sizes)
+}
+
+/// Whether the objects of a new shadow have these names.
+fn has_names(alloc: Global, names: &[u32]) -> bool {
+    match names_of_one(alloc) {
+        Ok(found) => found.as_slice() == names,
+        Err(_) => false,
+    }
+}
+
+/// The names of the objects of a new shadow.
+fn names_of_one(alloc: Global) -> Result<List<u32>, Memory> {
+    let shadow = one_object(alloc)?;
+    shadow.names(alloc)
 }
 
 /// The first period, with the number of the first call in it, whose answer is another; the one behind the last where memory is
@@ -230,4 +297,5 @@ fn first_other_period(
 fn a_shadow_refuses_reads_of_old_writes_and_writes_of_what_was_read(rt: HostRuntime) {
     assert_eq!(rt; first_other_period(&rt, rt.alloc(), PERIODS), None);
     assert_eq!(rt; first_other_period(&rt, rt.alloc(), STAMPS), None);
+    assert!(rt; has_names(rt.alloc(), &[0]));
 }
