@@ -1,5 +1,5 @@
 //! Whether an instruction has known names, and the types that it needs.
-ghost use Rattle.std.specs.Prelude.{◌≡◌, ◌&&◌, IfOk};
+ghost use Rattle.std.specs.Prelude.{◌≡◌, IfOk};
 ghost use Rattle.ir_tree.specs.Shown.{shown, shown_function};
 ghost use Rattle.ir_rules.specs.Seen.{seen};
 ghost use Rattle.ir_rules.specs.Causes.{all_names_known, all_types_fit};
@@ -12,18 +12,12 @@ use crate::operands::{are_labels, uses_fit, uses_known};
 use crate::scope::Scope;
 use ir_rules::forms::uses;
 use ir_rules::labels::{integer_types, sources, targets};
-use ir_rules::meeting::are_integers;
+use ir_rules::types::are_integers;
 use ir_tree::instruction::Instruction;
 use ir_tree::items::Function;
 use ir_tree::whole::Module;
 use pv_base::want::Memory;
 use std::alloc::Global;
-
-fn all_four(a: bool, b: bool, c: bool, d: bool) -> bool
-    ensures { result ≡ (a && b && c && d) }
-{
-    a && b && c && d
-}
 
 /// Whether each operand, label and callee of an instruction is defined.
 pub fn names_known(
@@ -45,13 +39,7 @@ pub fn names_known(
     let to = are_labels(tree, facts, function, scope, targets.as_slice());
     let from = are_labels(tree, facts, function, scope, sources.as_slice());
     let callee = calls_known(tree, facts, instruction);
-    Ok(all_four(operands, to, from, callee))
-}
-
-fn all_three(a: bool, b: bool, c: bool) -> bool
-    ensures { result ≡ (a && b && c) }
-{
-    a && b && c
+    Ok(operands & to & from & callee)
 }
 
 /// Whether each operand is of the type that is needed, and the form has what it asks.
@@ -72,5 +60,5 @@ pub fn types_fit(
     let form = form_fits(alloc, tree, facts, function, instruction)?;
     let operands = uses_fit(tree, facts, function, scope, uses.as_slice());
     let integers = are_integers(tree.names(), types.as_slice());
-    Ok(all_three(operands, integers, form))
+    Ok(operands & integers & form)
 }

@@ -16,4 +16,3 @@ pub mod Heads
 pub mod Classes
 pub mod TypeKeys
 pub mod Outer
-pub mod Edges

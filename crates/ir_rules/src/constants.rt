@@ -1,11 +1,11 @@
 //! Constants at their types, by their numbers in a table.
-ghost use Rattle.std.specs.Prelude.{◌≡◌, ◌<◌, ℕ, length, option_copied};
+ghost use Rattle.std.specs.Prelude.{◌≡◌, ℕ, option_copied};
 ghost use Rattle.std.specs.List.{list_all};
-ghost use Rattle.ir_tree.specs.Naming.{name_at, type_at, types_at, constant_at, elements_by, constant_of_node};
+ghost use Rattle.ir_tree.specs.Naming.{type_at, types_at, constant_at};
 ghost use Rattle.ir_rules.specs.Seen.{seen};
 ghost use Rattle.ir_rules.specs.Same.{same_type, same_types};
-ghost use Rattle.ir_rules.specs.Constants.{written_types, are_all, elements_fit, text_fits, fields_fit, has_form};
-ghost use Rattle.ir_rules.specs.Heads.{constant_below, node_constant, shown_fields, element_types};
+ghost use Rattle.ir_rules.specs.Constants.{elements_fit, text_fits, fields_fit, has_form};
+ghost use Rattle.ir_rules.specs.Heads.{node_constant, shown_fields, element_types};
 ghost use Rattle.ir_rules.specs.Classes.{AreClasses};
 
 use crate::classes::same_type;

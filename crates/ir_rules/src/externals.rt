@@ -3,21 +3,17 @@ ghost use Rattle.std.specs.Prelude.{◌≡◌, ◌∷◌, ◌||◌, [], ℕ, fal
 ghost use Rattle.std.specs.List.{list_any};
 ghost use Rattle.pv_base.specs.External.{external_result, external_parameters, takes_more};
 ghost use Rattle.ir_tree.specs.Naming.{name_at};
-ghost use Rattle.ir_tree.specs.Shown.{shown, shown_operand, shown_argument, shown_callee, shown_function};
-ghost use Rattle.ir_rules.specs.Seen.{seen};
+ghost use Rattle.ir_tree.specs.Shown.{shown_operand, shown_argument, shown_function};
 ghost use Rattle.ir_rules.specs.Calls.{outer_types, param_types, params_fit, is_external, external_of, is_false, flag_is_false, not_volatile, may_call};
-ghost use Rattle.ir_rules.specs.Causes.{callee_allowed, call_allowed};
 ghost use Rattle.ir_rules.specs.Heads.{name_or, node_constant};
 ghost use Rattle.ir_rules.specs.Outer.{outer_value, shown_outer};
 
-use crate::callees::function_named;
 use crate::constants::constant;
 use crate::whole::{Outer, is_outer, name, takes};
-use ir_tree::instruction::{Argument, Callee, Instruction, Operand};
+use ir_tree::instruction::{Argument, Operand};
 use ir_tree::items::Function;
-use ir_tree::nodes::{ConstantNode, NameId};
+use ir_tree::nodes::ConstantNode;
 use ir_tree::table::Names;
-use ir_tree::whole::Module;
 use pv_base::external::External;
 use pv_base::name::Name;
 use seq_calls::names::known;
@@ -205,33 +201,4 @@ pub fn declared_allowed(names: &Names, function: &Function, arguments: &[Argumen
 {
     let external = external_of(name(names, function.name));
     may_call(names, function, external, arguments)
-}
-
-fn callee_allowed(tree: &Module, callee: Callee, arguments: &[Argument]) -> bool
-    ensures { result ≡ callee_allowed (seen tree.now) (shown_callee tree.now.names callee) (map (shown_argument tree.now.names) arguments.now) }
-{
-    match callee {
-        Callee::Function(called) => match function_named(tree, called) {
-            Some(function) => {
-                !function.declared || declared_allowed(tree.names(), function, arguments)
-            }
-            None => true,
-        },
-        Callee::Pointer(_) => true,
-    }
-}
-
-/// Whether a call of a declared function is one of the external that it is.
-#[tactic(auto, unfolding(crate::specs::Causes::call_allowed, ir_tree::specs::Shown::shown))]
-pub fn call_allowed(tree: &Module, instruction: &Instruction) -> bool
-    ensures { result ≡ call_allowed (seen tree.now) (shown tree.now.names instruction.now) }
-{
-    match instruction {
-        Instruction::Call {
-            callee,
-            arguments,
-            ..
-        } => callee_allowed(tree, *callee, arguments.as_slice()),
-        _ => true,
-    }
 }

@@ -1,24 +1,21 @@
 //! The types of calls, and what the form of an instruction asks beyond its operands.
-ghost use Rattle.std.specs.Prelude.{◌≡◌, map, option_map, IfOk};
-ghost use Rattle.ir_tree.specs.Naming.{name_at, type_at};
-ghost use Rattle.ir_tree.specs.Shown.{shown, shown_operand, shown_argument, shown_callee, shown_function};
+ghost use Rattle.std.specs.Prelude.{◌≡◌, map, IfOk};
+ghost use Rattle.ir_tree.specs.Naming.{type_at};
+ghost use Rattle.ir_tree.specs.Shown.{shown_operand, shown_argument, shown_function};
 ghost use Rattle.ir_rules.specs.Seen.{seen};
 ghost use Rattle.ir_rules.specs.Calls.{params_fit, written_form, call_fits};
-ghost use Rattle.ir_rules.specs.Causes.{callee_fits, operand_index, form_fits};
+ghost use Rattle.ir_rules.specs.Causes.{operand_index};
 ghost use Rattle.ir_rules.specs.Indexing.{path, agrees};
 ghost use Rattle.ir_rules.specs.Classes.{AreClasses};
 
-use crate::callees::function_named;
 use crate::classes::same_type;
 use crate::constants::constant;
-use crate::labels::written_types;
 use crate::paths::path;
 use crate::together::{agrees, constant_index};
 use crate::types::is_pointer;
-use crate::typing::{cast_fits, returns_fit};
-use ir_tree::instruction::{Argument, Callee, Instruction, Operand};
+use ir_tree::instruction::{Argument, Operand};
 use ir_tree::items::{Function, Param};
-use ir_tree::nodes::{NameId, TypeId};
+use ir_tree::nodes::TypeId;
 use ir_tree::table::Names;
 use ir_tree::whole::Module;
 use pv_base::list::List;
@@ -91,57 +88,6 @@ pub fn call_fits(
         && params_fit(names, classes, variadic, params, arguments)
 }
 
-#[tactic(auto, using(crate::proofs::CallLemmas::argument_types_shown))]
-fn named_call_fits(
-    alloc: Global,
-    tree: &Module,
-    classes: &[usize],
-    name: NameId,
-    of: TypeId,
-    variadic: bool,
-    arguments: &[Argument],
-) -> Result<bool, Memory>
-    requires { AreClasses tree.now.names classes.now }
-    ensures { IfOk result (λ b. b ≡ callee_fits (seen tree.now) (shown_callee tree.now.names (Callee.Function name)) (type_at tree.now.names of) variadic (map (shown_argument tree.now.names) arguments.now)) }
-{
-    let types = written_types(alloc, arguments)?;
-    match function_named(tree, name) {
-        Some(function) => {
-            let params = param_types(alloc, function.params.as_slice())?;
-            Ok(call_fits(
-                tree.names(),
-                classes,
-                function,
-                params.as_slice(),
-                of,
-                variadic,
-                types.as_slice(),
-            ))
-        }
-        None => Ok(true),
-    }
-}
-
-fn callee_fits(
-    alloc: Global,
-    tree: &Module,
-    classes: &[usize],
-    callee: Callee,
-    of: TypeId,
-    variadic: bool,
-    arguments: &[Argument],
-) -> Result<bool, Memory>
-    requires { AreClasses tree.now.names classes.now }
-    ensures { IfOk result (λ b. b ≡ callee_fits (seen tree.now) (shown_callee tree.now.names callee) (type_at tree.now.names of) variadic (map (shown_argument tree.now.names) arguments.now)) }
-{
-    match callee {
-        Callee::Function(name) => {
-            named_call_fits(alloc, tree, classes, name, of, variadic, arguments)
-        }
-        Callee::Pointer(_) => Ok(!variadic),
-    }
-}
-
 fn operand_index(names: &Names, argument: Argument) -> Option<u64>
     ensures { result ≡ operand_index (type_at names.now argument.of) (shown_operand names.now argument.value) }
 {
@@ -178,46 +124,4 @@ pub fn address_fits(
 {
     let numbers = indices(alloc, tree.names(), arguments)?;
     Ok(agrees(path(tree, of, numbers.as_slice())))
-}
-
-/// Whether an instruction has what its form asks beyond its operands.
-#[tactic(auto, unfolding(crate::specs::Causes::form_fits, ir_tree::specs::Shown::shown))]
-pub fn form_fits(
-    alloc: Global,
-    tree: &Module,
-    classes: &[usize],
-    function: &Function,
-    instruction: &Instruction,
-) -> Result<bool, Memory>
-    requires { AreClasses tree.now.names classes.now }
-    ensures { IfOk result (λ b. b ≡ form_fits (seen tree.now) (shown_function tree.now.names function.now) (shown tree.now.names instruction.now)) }
-{
-    match instruction {
-        Instruction::Cast { op, of, target, .. } => Ok(cast_fits(tree.names(), *op, *of, *target)),
-        Instruction::Address { of, indices, .. } => {
-            address_fits(alloc, tree, *of, indices.as_slice())
-        }
-        Instruction::Call {
-            of,
-            variadic,
-            callee,
-            arguments,
-            ..
-        } => callee_fits(
-            alloc,
-            tree,
-            classes,
-            *callee,
-            *of,
-            *variadic,
-            arguments.as_slice(),
-        ),
-        Instruction::Return { value } => Ok(returns_fit(
-            tree.names(),
-            classes,
-            function.result,
-            *value,
-        )),
-        _ => Ok(true),
-    }
 }

@@ -1,6 +1,6 @@
 //! The parts of an instruction by its form.
 ghost use Rattle.std.specs.Prelude.{◌≡◌, ◌++◌, ◌∷◌, [], map, IfOk};
-ghost use Rattle.ir_rules.specs.Forms.{is_terminator, is_phi, call_register, result_of, used, argument_use, argument_uses, callee_uses, uses, targets, sources, argument_types, integer_types};
+ghost use Rattle.ir_rules.specs.Forms.{is_terminator, is_phi, call_register, result_of, used, argument_use, argument_uses, callee_uses, uses};
 
 use crate::given::{Defined, Given, Use};
 use ir_tree::instruction::{Argument, Arm, Callee, Case, Instruction, Operand};

@@ -1,7 +1,6 @@
 //! The rules of a module as definitions, exact tests of their parts, and a module that keeps them.
 #![tactic(auto)]
 
-pub mod callees;
 pub mod checked;
 pub mod classes;
 pub mod constants;
@@ -14,7 +13,6 @@ pub mod flags;
 pub mod forms;
 pub mod given;
 pub mod labels;
-pub mod meeting;
 pub mod numbers;
 pub mod operands;
 pub mod parts;

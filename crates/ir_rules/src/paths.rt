@@ -1,5 +1,5 @@
 //! Named types, the fields of structs, and where indices into a type lead.
-ghost use Rattle.std.specs.Prelude.{◌≡◌, fold, map};
+ghost use Rattle.std.specs.Prelude.{◌≡◌, fold};
 ghost use Rattle.ir_tree.specs.Naming.{type_at, types_at};
 ghost use Rattle.ir_tree.specs.Layouts.{fields_of, struct_fields};
 ghost use Rattle.ir_tree.specs.Modules.{types_of};

@@ -1,12 +1,12 @@
 //! Whether what stands in each constant of a table is of the types that are written before it.
 ghost use Rattle.std.specs.Prelude.{◌≡◌, ◌&&◌, ℕ, length, map, Some, IfOk, option_copied};
 ghost use Rattle.std.specs.List.{list_all};
-ghost use Rattle.ir_tree.specs.Trees.{PtrV, AddressC};
-ghost use Rattle.ir_tree.specs.Naming.{type_at, types_at, constant_at, elements_by};
+ghost use Rattle.ir_tree.specs.Trees.{AddressC};
+ghost use Rattle.ir_tree.specs.Naming.{type_at, constant_at, elements_by};
 ghost use Rattle.ir_rules.specs.Seen.{seen};
 ghost use Rattle.ir_rules.specs.Constants.{is_integer, written_types, all_integers, has_form, constant_bits, constant_index, indices_of, holds_together, all_together};
 ghost use Rattle.ir_rules.specs.Indexing.{path, agrees};
-ghost use Rattle.ir_rules.specs.Heads.{constant_below, node_constant, element_types, shown_walk, FlagsBelow, AreFlags};
+ghost use Rattle.ir_rules.specs.Heads.{constant_below, node_constant, shown_walk, FlagsBelow, AreFlags};
 ghost use Rattle.ir_rules.specs.Classes.{AreClasses};
 
 use crate::constants::constant;

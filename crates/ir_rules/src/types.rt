@@ -1,5 +1,6 @@
 //! Small tests of names and of types, by their numbers in a table.
-ghost use Rattle.std.specs.Prelude.{◌≡◌, option_map};
+ghost use Rattle.std.specs.Prelude.{◌≡◌};
+ghost use Rattle.std.specs.List.{list_all};
 ghost use Rattle.ir_tree.specs.Table.{same_name};
 ghost use Rattle.ir_tree.specs.Naming.{name_at, type_at};
 ghost use Rattle.ir_rules.specs.Constants.{is_pointer, is_integer, has_width};
@@ -169,4 +170,11 @@ pub fn is_answer(names: &Names, of: TypeId) -> bool
         Head::Void => true,
         _ => false,
     }
+}
+
+/// Whether each type is one of integers.
+pub fn are_integers(names: &Names, types: &[TypeId]) -> bool
+    ensures { result ≡ list_all (λ k. is_integer (type_at names.now k)) types.now }
+{
+    types.iter().all(|k| is_integer(names, *k))
 }

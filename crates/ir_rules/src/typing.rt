@@ -1,21 +1,15 @@
 //! What the form of an instruction asks of types beyond its operands.
-ghost use Rattle.std.specs.Prelude.{◌≡◌, ◌&&◌, IfOk, map, option_map};
-ghost use Rattle.std.specs.List.{list_all};
-ghost use Rattle.int_num.specs.declared.ops.CastOp.{CastOp};
+ghost use Rattle.std.specs.Prelude.{◌≡◌, option_map};
 ghost use Rattle.ir_tree.specs.Trees.{IntV};
-ghost use Rattle.ir_tree.specs.Naming.{name_at, type_at};
-ghost use Rattle.ir_tree.specs.Shown.{shown, shown_operand, shown_argument, shown_function, shown_callee};
-ghost use Rattle.ir_rules.specs.Seen.{seen};
-ghost use Rattle.ir_rules.specs.Constants.{is_pointer};
-ghost use Rattle.ir_rules.specs.Calls.{params_fit, written_form, call_fits};
+ghost use Rattle.ir_tree.specs.Naming.{type_at};
+ghost use Rattle.ir_tree.specs.Shown.{shown_argument};
 ghost use Rattle.ir_rules.specs.Causes.{cast_fits, returns_fit};
 ghost use Rattle.ir_rules.specs.Classes.{AreClasses};
 
 use crate::classes::same_type;
-use crate::types::{Head, head_of, is_pointer, is_void};
+use crate::types::{Head, head_of, is_void};
 use int_num::ops::CastOp;
 use ir_tree::instruction::Argument;
-use ir_tree::items::{Function, Param};
 use ir_tree::nodes::TypeId;
 use ir_tree::table::Names;
 
