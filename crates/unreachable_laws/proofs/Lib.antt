@@ -1,0 +1,9 @@
+pub mod Trees
+pub mod Operands
+pub mod Families
+pub mod Flow
+pub mod Outside
+pub mod Memory
+pub mod Frames
+pub mod Acting
+pub mod Running

@@ -1,0 +1,4 @@
+pub mod Typing
+pub mod States
+pub mod Trees
+pub mod Laws
