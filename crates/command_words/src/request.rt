@@ -2,7 +2,7 @@
 ghost use Rattle.std.specs.Prelude.{◌≡◌, IfOk, map};
 ghost use Rattle.clap.specs.Words.{found_of, rows_of};
 ghost use Rattle.command_words.specs.CommandLine.{whole_app};
-ghost use Rattle.command_words.specs.Requests.{asks, asked_of, asked_of_texts, asked_in, asked_run, whole_commands, run_of, check_of};
+ghost use Rattle.command_words.specs.Requests.{asks, asked_of, asked_of_texts, asked_in, asked_run, lacking, whole_commands, run_of, check_of};
 ghost use Rattle.command_words.specs.PlainLines.{ReadsPlain, now_of};
 
 use crate::command_line::command_line;
@@ -42,6 +42,13 @@ pub enum Request {
     },
 }
 
+/// What words ask that lack what their command needs: no parse gives them, and they are answered as want of memory.
+fn lacking() -> Result<Request, Memory>
+    ensures { IfOk result (λ r. asks r ≡ lacking) }
+{
+    Err(Memory)
+}
+
 fn run_request(alloc: Global, code: &str, input: &str, budget: &str) -> Result<Request, Memory>
     ensures { IfOk result (λ r. asks r ≡ asked_run code.now input.now budget.now) }
 {
@@ -59,7 +66,7 @@ fn run_request(alloc: Global, code: &str, input: &str, budget: &str) -> Result<R
                     budget,
                 })
             }
-            _ => Err(Memory),
+            _ => lacking(),
         },
     }
 }
@@ -74,7 +81,7 @@ fn run_from(
 {
     match (code, input, budget) {
         (Some(code), Some(input), Some(budget)) => run_request(alloc, code, input, budget),
-        _ => Err(Memory),
+        _ => lacking(),
     }
 }
 
@@ -86,12 +93,11 @@ fn check_from(alloc: Global, code: Option<&str>) -> Result<Request, Memory>
             let code = String::from_str(alloc, code)?;
             Ok(Request::Check { code })
         }
-        None => Err(Memory),
+        None => lacking(),
     }
 }
 
-/// What a command asks, by its name. That a word is missing after a parse does not happen, and is answered as want of
-/// memory.
+/// What a command asks, by its name.
 #[tactic(auto, using(crate::proofs::ReadLemmas::asked_lemmas))]
 fn read_matches(alloc: Global, name: &str, matches: &ArgMatches) -> Result<Request, Memory>
     ensures { IfOk result (λ r. asks r ≡ asked_in whole_commands name.now (rows_of (found_of matches.now))) }
@@ -104,7 +110,7 @@ fn read_matches(alloc: Global, name: &str, matches: &ArgMatches) -> Result<Reque
             run_from(alloc, code, input, budget)
         }
         "check" => check_from(alloc, value_of(matches, "MODULE")),
-        _ => Err(Memory),
+        _ => lacking(),
     }
 }
 
@@ -115,7 +121,7 @@ fn read_texts<'a>(alloc: Global, words: &'a [&'a str]) -> Result<Request, Memory
     match taken(alloc, command, words)? {
         Ok(matches) => match matches.subcommand() {
             Some((name, inner)) => read_matches(alloc, name, inner),
-            None => Err(Memory),
+            None => lacking(),
         },
         Err(text) => Ok(Request::Refused { text }),
     }
