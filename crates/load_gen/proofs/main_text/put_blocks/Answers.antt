@@ -1,4 +1,3 @@
-use Rattle.std.proofs.Common.{◌+◌}
 use Rattle.load_gen.specs.Module.{block_text}
 use Rattle.load_gen.proofs.Texts.{each_none, one_more}
 use Rattle.load_gen.proofs.main_text.put_blocks.Goals as goal

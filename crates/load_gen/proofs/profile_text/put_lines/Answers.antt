@@ -1,4 +1,3 @@
-use Rattle.std.proofs.Common.{◌+◌}
 use Rattle.load_gen.specs.Profile.{line_text}
 use Rattle.load_gen.proofs.Texts.{each_none, one_more}
 use Rattle.load_gen.proofs.profile_text.put_lines.Goals as goal
