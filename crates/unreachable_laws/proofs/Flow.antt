@@ -68,7 +68,7 @@ none_set zero i v e = absurd cc
 none_set (suc n) zero v e = absurd cc
 none_set (suc n) (suc i) v e = none_set n i v e
 
-entry_from : (n : ℕ) (ts others : List Scalar) (vs : List Value) → Each (λ t v. is_of v t ≡ true) ts vs → RegistersTyped (ts ++ others) (map Some vs ++ replicate n None)
+pub entry_from : (n : ℕ) (ts others : List Scalar) (vs : List Value) → Each (λ t v. is_of v t ≡ true) ts vs → RegistersTyped (ts ++ others) (map Some vs ++ replicate n None)
 entry_from n [] others [] h i v e = absurd (none_set n i v e)
 entry_from n [] others (w ∷ vs) h i v e = elim h [ ]
 entry_from n (t ∷ ts) others [] h i v e = elim h [ ]

@@ -7,3 +7,6 @@ pub mod Memory
 pub mod Frames
 pub mod Acting
 pub mod Running
+pub mod Firsts
+pub mod There
+pub mod Programs

@@ -38,3 +38,26 @@ StepKeepsTyped = (code : Code) (input : Text) (s : State Picture) → CodeTyped 
 -- from such frames a run traps `unreachable` at an instruction `unreachable` alone
 abbrev pub TypedRunsStop : Type 0
 TypedRunsStop = (code : Code) (input : Text) (s : State Picture) (n : ℕ) (site : Site) → CodeTyped code → FramesTyped code s.frames → (steps_from code input s n).0 ≡ Trapped Unreachable site → StandsUnreachable code site
+
+-- ---- programs
+
+-- the first frame of a checked module is typed
+abbrev pub FirstIsTyped : Type 0
+FirstIsTyped = (m : Items) → IsTable m.names → IsChecked m → FramesTyped (code_of m) (first_state m).frames
+
+-- an instruction `unreachable` of the module stands at this site
+pub record IsUnreachableAt (m : Items) (site : Site) : Type 0 where
+  pub function : ℕ
+  pub block : ℕ
+  pub place : ℕ
+  pub stands : StandsAt m function block place
+  pub is : stands.instruction ≡ tree.Unreachable
+  pub here : site ≡ record { function = function; place = instruction_count (take block stands.function.blocks) + place }
+
+-- where a frame of a checked module's code stands at `unreachable`, the module has it
+abbrev pub UnreachableIsThere : Type 0
+UnreachableIsThere = (m : Items) → IsTable m.names → IsChecked m → (site : Site) → StandsUnreachable (code_of m) site → IsUnreachableAt m site
+
+-- so the run of a checked module whose code is typed traps `unreachable` at one of its instructions `unreachable` alone
+abbrev pub TypedProgramsStop : Type 0
+TypedProgramsStop = (m : Items) → IsTable m.names → IsChecked m → CodeTyped (code_of m) → (input : Text) (n : ℕ) (site : Site) → (steps_from (code_of m) input (first_state m) n).0 ≡ Trapped Unreachable site → IsUnreachableAt m site

@@ -4,7 +4,7 @@
 //! missing. So the trap tells that the program itself said that it does not come there.
 #![tactic(auto)]
 
-ghost use Rattle.unreachable_laws.specs.Laws.{StepKeepsTyped, TypedRunsStop};
+ghost use Rattle.unreachable_laws.specs.Laws.{StepKeepsTyped, TypedRunsStop, FirstIsTyped, UnreachableIsThere, TypedProgramsStop};
 
 /// A step of a typed code.
 pub fn step_keeps_typed()
@@ -14,4 +14,19 @@ pub fn step_keeps_typed()
 /// A run of a typed code.
 pub fn typed_runs_stop()
     ensures { TypedRunsStop }
+{}
+
+/// The first frame of a checked module.
+pub fn first_is_typed()
+    ensures { FirstIsTyped }
+{}
+
+/// Where a module's code has the instruction `unreachable`, the module has it.
+pub fn unreachable_is_there()
+    ensures { UnreachableIsThere }
+{}
+
+/// A run of a module's program.
+pub fn typed_programs_stop()
+    ensures { TypedProgramsStop }
 {}
