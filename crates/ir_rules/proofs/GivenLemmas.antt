@@ -4,7 +4,7 @@ use Rattle.ir_tree.specs.Trees.{TypeV, IntV, PtrV, VoidV, ArrayV, StructV, Named
 use Rattle.ir_rules.specs.Same.{same_type}
 use Rattle.ir_rules.specs.Constants.{is_pointer, has_width}
 use Rattle.ir_rules.specs.Reading.{is_void}
-use Rattle.ir_rules.proofs.ClassLemmas.{eq_swap}
+use Rattle.ir_rules.proofs.Classed.{eq_swap}
 
 pub pointer_left : (b : TypeV) → same_type PtrV b ≡ is_pointer b
 unfolding same_type

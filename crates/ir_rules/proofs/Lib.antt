@@ -1,6 +1,7 @@
 pub mod Cases
 pub mod TypeLemmas
 pub mod SameLemmas
+pub mod Classed
 pub mod ClassLemmas
 pub mod TypeKeyLemmas
 pub mod PathLemmas

@@ -13,7 +13,7 @@ use Rattle.pv_base.specs.declared.name.Name.TheVariants.{Numbered}
 use Rattle.ir_tree.specs.declared.nodes.TypeNode.{TypeNode}
 use Rattle.ir_tree.specs.declared.nodes.TypeNode.TheVariants as node
 use Rattle.ir_tree.specs.Table.{Table, IsTable, TypeWithin, same_name}
-use Rattle.ir_tree.specs.Trees.{TypeV, NamedV}
+use Rattle.ir_tree.specs.Trees.{TypeV, PtrV, NamedV}
 use Rattle.ir_tree.specs.Naming.{name_at, type_at, types_by, type_of_node}
 use Rattle.ir_tree.proofs.Places.{one_place}
 use Rattle.ir_tree.proofs.Bodies.{same_self}
@@ -23,7 +23,8 @@ use Rattle.ir_rules.specs.TypeKeys.{type_key, Keyed}
 use Rattle.ir_rules.specs.declared.type_keys.TypeKey.{TypeKey}
 use Rattle.ir_rules.specs.declared.type_keys.TypeKey.TheVariants as key
 use Rattle.ir_rules.proofs.SameLemmas.{type_is_same, type_self}
-use Rattle.ir_rules.proofs.ClassLemmas.{below_is, below_past, class_past, node_below}
+use Rattle.ir_rules.proofs.Classed.{class_past, below_is, below_past}
+use Rattle.ir_rules.proofs.ClassLemmas.{node_below}
 
 -- names of the table are equal only where their numbers are
 pub one_name : (t : Table) → IsTable t → (i j : ℕ) → i < length t.names → j < length t.names → name_at t i ≡ name_at t j → i ≡ j
@@ -148,14 +149,14 @@ module _ (t : Table) (classes : List ℕ) (keys new : List TypeKey) (class : ℕ
           node = get_or t.types i node.Ptr;
           bound = i;
           within = is.types i (get_or t.types i node.Ptr) (inside i lt);
-          is = below_is t (length classes) i lt ∙ node_below t (length classes) i (get_or t.types i node.Ptr) is (inside i lt) (omega arith);
+          is = below_is (type_at t) PtrV (length classes) i lt ∙ node_below t (length classes) i (get_or t.types i node.Ptr) is (inside i lt) (omega arith);
           known = keyed.each i (get_or t.types i node.Ptr) lt (inside i lt);
         }
         | inr ge ↦ record {
           node = node.Ptr;
           bound = 0;
           within = tt;
-          is = below_past t (length classes) i ge;
+          is = below_past (type_at t) PtrV (length classes) i ge;
           known = rw (class_past classes i ge) keyed.first;
         }
       ]
