@@ -19,7 +19,7 @@ use Rattle.ir_rules.specs.Same.{same_type, same_constant}
 use Rattle.ir_rules.specs.Classes.{class_at, AreClasses}
 use Rattle.ir_rules.specs.Heads.{constant_below}
 use Rattle.ir_rules.proofs.SameLemmas.{type_is_same, type_self}
-use Rattle.ir_rules.proofs.ClassLemmas.{class_past}
+use Rattle.ir_rules.proofs.Classed.{class_past}
 use Rattle.ir_rules.proofs.TypeKeyLemmas.{one_name}
 use Rattle.ir_rules.proofs.ConstantLemmas.{below_is, below_past}
 use Rattle.ir_checker.specs.ConstantClasses.{KindsBelow, IsNextKind}
