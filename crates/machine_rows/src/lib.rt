@@ -4,6 +4,8 @@
 #[cfg(test)]
 mod guarded;
 #[cfg(test)]
+mod lifetimes;
+#[cfg(test)]
 mod memories;
 #[cfg(test)]
 mod printing;
