@@ -9,4 +9,3 @@ pub mod Edges
 pub mod Functions
 pub mod Pictures
 pub mod Running
-pub mod Reporting

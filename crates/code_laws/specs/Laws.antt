@@ -4,19 +4,14 @@ use Rattle.pv_base.specs.Outside.{Text}
 use Rattle.ir_tree.specs.Table.{IsTable}
 use Rattle.ir_tree.specs.Modules.{Items}
 use Rattle.ir_tree.specs.Written.{shown_module}
-use Rattle.ir_rules.specs.declared.fault.CheckError.{CheckError}
 use Rattle.ir_rules.specs.Numbering.{is_within}
 use Rattle.ir_code.specs.Coding.{code_of}
 use Rattle.ir_bytes.specs.Initial.{first_picture}
-use Rattle.seq_machine.specs.declared.state.Outcome.{Outcome}
 use Rattle.seq_run.specs.First.{first_state}
 use Rattle.seq_run.specs.Outcomes.{outcome_of_run}
-use Rattle.run_report.specs.Report.{report_text}
-use Rattle.run_report.specs.Refusals.{refused_check, accepted_text}
 use Rattle.code_laws.specs.Coded.{module_code}
 use Rattle.code_laws.specs.Pictured.{module_picture}
 use Rattle.code_laws.specs.Runs.{module_state, module_outcome}
-use Rattle.code_laws.specs.Reports.{module_report, module_refused, module_accepted}
 
 -- the code of the items of a table is that of the module that they stand for
 abbrev pub CodeIsTheModules : Type 0
@@ -33,13 +28,3 @@ StateIsTheModules = (m : Items) → IsTable m.names → is_within m ≡ true →
 -- so is what its run leaves
 abbrev pub OutcomeIsTheModules : Type 0
 OutcomeIsTheModules = (m : Items) (input : Text) (n : ℕ) → IsTable m.names → is_within m ≡ true → outcome_of_run m input n ≡ module_outcome (shown_module m) input n
-
--- what is reported of a run, of a module that breaks a rule, and of one that is accepted, whatever the numbers
-abbrev pub ReportIsTheModules : Type 0
-ReportIsTheModules = (m : Items) (o : Outcome) → report_text m o ≡ module_report (shown_module m) o
-
-abbrev pub RefusalIsTheModules : Type 0
-RefusalIsTheModules = (m : Items) (e : CheckError) → refused_check m e ≡ module_refused (shown_module m) e
-
-abbrev pub AcceptanceIsTheModules : Type 0
-AcceptanceIsTheModules = (m : Items) → accepted_text m ≡ module_accepted (shown_module m)

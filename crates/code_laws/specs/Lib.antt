@@ -3,5 +3,4 @@ pub mod Ops
 pub mod Coded
 pub mod Pictured
 pub mod Runs
-pub mod Reports
 pub mod Laws

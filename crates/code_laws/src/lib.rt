@@ -4,7 +4,7 @@
 //! its run are those of the module written out, so that they do not depend on the numbers.
 #![tactic(auto)]
 
-ghost use Rattle.code_laws.specs.Laws.{CodeIsTheModules, PictureIsTheModules, StateIsTheModules, OutcomeIsTheModules, ReportIsTheModules, RefusalIsTheModules, AcceptanceIsTheModules};
+ghost use Rattle.code_laws.specs.Laws.{CodeIsTheModules, PictureIsTheModules, StateIsTheModules, OutcomeIsTheModules};
 
 /// The code.
 pub fn code_is_that_of_the_module()
@@ -24,19 +24,4 @@ pub fn state_is_that_of_the_module()
 /// What a run leaves, whatever the input and the budget.
 pub fn outcome_is_that_of_the_module()
     ensures { OutcomeIsTheModules }
-{}
-
-/// The report of a run.
-pub fn report_is_that_of_the_module()
-    ensures { ReportIsTheModules }
-{}
-
-/// The line of a module that breaks a rule.
-pub fn refusal_is_that_of_the_module()
-    ensures { RefusalIsTheModules }
-{}
-
-/// The line of a module that is accepted.
-pub fn acceptance_is_that_of_the_module()
-    ensures { AcceptanceIsTheModules }
 {}

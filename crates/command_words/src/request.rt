@@ -30,15 +30,15 @@ pub enum Request {
     Refused {
         text: Bytes,
     },
-    /// `run CODE INPUT --budget N`
+    /// `run MODULE INPUT --budget N`
     Run {
-        code: String,
+        module: String,
         input: String,
         budget: u64,
     },
-    /// `check CODE`
+    /// `check MODULE`
     Check {
-        code: String,
+        module: String,
     },
 }
 
@@ -49,19 +49,19 @@ fn lacking() -> Result<Request, Memory>
     Err(Memory)
 }
 
-fn run_request(alloc: Global, code: &str, input: &str, budget: &str) -> Result<Request, Memory>
-    ensures { IfOk result (λ r. asks r ≡ asked_run code.now input.now budget.now) }
+fn run_request(alloc: Global, module: &str, input: &str, budget: &str) -> Result<Request, Memory>
+    ensures { IfOk result (λ r. asks r ≡ asked_run «module».now input.now budget.now) }
 {
     let budget = Numeral::new("--budget", 1, BUDGET_LIMIT, budget);
     match numbers(alloc, &[budget])? {
         Err(line) => Ok(Request::Usage { line }),
         Ok(values) => match values.as_slice() {
             [budget] => {
-                let code = String::from_str(alloc, code)?;
+                let module = String::from_str(alloc, module)?;
                 let input = String::from_str(alloc, input)?;
                 let budget = *budget;
                 Ok(Request::Run {
-                    code,
+                    module,
                     input,
                     budget,
                 })
@@ -73,25 +73,25 @@ fn run_request(alloc: Global, code: &str, input: &str, budget: &str) -> Result<R
 
 fn run_from(
     alloc: Global,
-    code: Option<&str>,
+    module: Option<&str>,
     input: Option<&str>,
     budget: Option<&str>,
 ) -> Result<Request, Memory>
-    ensures { IfOk result (λ r. asks r ≡ run_of (now_of code.entry) (now_of input.entry) (now_of budget.entry)) }
+    ensures { IfOk result (λ r. asks r ≡ run_of (now_of «module».entry) (now_of input.entry) (now_of budget.entry)) }
 {
-    match (code, input, budget) {
-        (Some(code), Some(input), Some(budget)) => run_request(alloc, code, input, budget),
+    match (module, input, budget) {
+        (Some(module), Some(input), Some(budget)) => run_request(alloc, module, input, budget),
         _ => lacking(),
     }
 }
 
-fn check_from(alloc: Global, code: Option<&str>) -> Result<Request, Memory>
-    ensures { IfOk result (λ r. asks r ≡ check_of (now_of code.entry)) }
+fn check_from(alloc: Global, module: Option<&str>) -> Result<Request, Memory>
+    ensures { IfOk result (λ r. asks r ≡ check_of (now_of «module».entry)) }
 {
-    match code {
-        Some(code) => {
-            let code = String::from_str(alloc, code)?;
-            Ok(Request::Check { code })
+    match module {
+        Some(module) => {
+            let module = String::from_str(alloc, module)?;
+            Ok(Request::Check { module })
         }
         None => lacking(),
     }
@@ -104,10 +104,10 @@ fn read_matches(alloc: Global, name: &str, matches: &ArgMatches) -> Result<Reque
 {
     match name {
         "run" => {
-            let code = value_of(matches, "MODULE");
+            let module = value_of(matches, "MODULE");
             let input = value_of(matches, "INPUT");
             let budget = value_of(matches, "budget");
-            run_from(alloc, code, input, budget)
+            run_from(alloc, module, input, budget)
         }
         "check" => check_from(alloc, value_of(matches, "MODULE")),
         _ => lacking(),

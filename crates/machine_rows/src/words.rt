@@ -28,11 +28,11 @@ fn read(alloc: Global, words: &[&[u8]]) -> Result<String, Fail> {
         Request::Usage { line } => text_of(alloc, &line),
         Request::Refused { text: _ } => Ok(String::from_str(alloc, "clap")?),
         Request::Run {
-            code,
+            module,
             input,
             budget,
-        } => Ok(format!(in alloc; "run {code} {input} {budget}")?),
-        Request::Check { code } => Ok(format!(in alloc; "check {code}")?),
+        } => Ok(format!(in alloc; "run {module} {input} {budget}")?),
+        Request::Check { module } => Ok(format!(in alloc; "check {module}")?),
     }
 }
 

@@ -13,13 +13,12 @@ use Rattle.ir_rules.specs.Numbering.{is_within}
 use Rattle.seq_machine.specs.declared.state.Outcome.{Outcome}
 use Rattle.seq_run.specs.Outcomes.{outcome_of_run}
 use Rattle.run_report.specs.Report.{report_text}
-use Rattle.run_report.specs.Refusals.{refused_module, accepted_text}
+use Rattle.run_report.specs.Refusals.{refused_module, refused_check, accepted_text}
 use Rattle.code_laws.specs.Runs.{module_outcome}
-use Rattle.code_laws.specs.Reports.{module_refused}
 use Rattle.code_laws.proofs.Running.{outcome_same}
-use Rattle.code_laws.proofs.Reporting.{report_same, accepted_same}
 use Rattle.pv_base.specs.Limits.{file_limit}
-use Rattle.plain_commands.specs.Answers.{IsReadFault, ReadsFile, refuses}
+use Rattle.plain_commands.specs.Status as exit
+use Rattle.plain_commands.specs.Answers.{gives, IsReadFault, ReadsFile, refuses}
 use Rattle.plain_commands.specs.Texts.{Texts, Tells, Answers}
 use Rattle.plain_commands.specs.Commands.{RunsModule, RunsLoaded, ChecksLoaded, IsTaken, TellsRun, TellsCheck, RunReads, CheckReads, run_module, ran, status_of, accepted, answer_of, unless_fault, wanted_run, wanted_check}
 use Rattle.plain_commands.specs.Loading.{IsLoaded, refusal_by, refusal_of}
@@ -30,13 +29,13 @@ use Rattle.plain_commands.proofs.FileLemmas.{with_short, with_long, some_text, l
 
 -- ---- what a text was taken for
 
-pub answer_refused : (read : Result ModuleV ReadError) (next : ModuleV → Answer) (line : Text) → refusal_by read ≡ Some line → answer_of read next ≡ refuses 3 line
-answer_refused (Err e) next line is = let same : refused_module e ≡ line = cc in ap (refuses 3) same
+pub answer_refused : (read : Result ModuleV ReadError) (next : ModuleV → Answer) (line : Text) → refusal_by read ≡ Some line → answer_of read next ≡ refuses exit.refused line
+answer_refused (Err e) next line is = let same : refused_module e ≡ line = cc in ap (refuses exit.refused) same
 answer_refused (Ok v) next line is = by_fault (first_fault v) is
   where
-    by_fault : (o : Option CheckError) → option_map (module_refused v) o ≡ Some line → unless_fault v o (next v) ≡ refuses 3 line
+    by_fault : (o : Option CheckError) → option_map (refused_check v) o ≡ Some line → unless_fault v o (next v) ≡ refuses exit.refused line
     by_fault None e = absurd cc
-    by_fault (Some f) e = let same : module_refused v f ≡ line = cc in ap (refuses 3) same
+    by_fault (Some f) e = let same : refused_check v f ≡ line = cc in ap (refuses exit.refused) same
 
 pub answer_accepted : (read : Result ModuleV ReadError) (next : ModuleV → Answer) (v : ModuleV) → read ≡ Ok v → first_fault v ≡ None → answer_of read next ≡ next v
 answer_accepted read next v is none = rw (is, none) refl
@@ -104,7 +103,7 @@ module _ (content : Text → Option Text) (code input : Text) (budget : ℕ) whe
 
   -- what is wanted of a module that is refused, and of one that is accepted
   run_refused : (text given line : Text) → length text ≤ file_limit → refusal_of text ≡ Some line
-      → wanted_run (record { code = text; input = given }) code input budget ≡ refuses 3 line
+      → wanted_run (record { code = text; input = given }) code input budget ≡ refuses exit.refused line
   run_refused text given line bound is =
       with_short file_limit text code (answer_of (read_of text) (run_module given input budget)) bound ∙ answer_refused (read_of text) (run_module given input budget) line is
 
@@ -180,13 +179,13 @@ module _ (content : Text → Option Text) (code : Text) where
   }
 
 -- the answer to the check of an accepted module
-pub checks_is : (loaded : Loaded) (m n : Items) (out report : Text) → loaded ≡ Accepted m → n ≡ m → out ≡ accepted_text n → report ≡ []
-    → ChecksLoaded loaded (record { status = 0; out = out; report = report })
-checks_is loaded m n out report is same told none = rw (is, told, same, none, accepted_same m) refl
+pub checks_is : (loaded : Loaded) (m n : Items) (out report : Text) → loaded ≡ Accepted m → n ≡ m → out ≡ accepted_text (shown_module n) → report ≡ []
+    → ChecksLoaded loaded (gives exit.ended out report)
+checks_is loaded m n out report is same told none = rw (is, told, same, none) refl
 
 -- the answer of a run, over the module written out
 pub ran_is : (m n : Items) (input : Text) (budget status : ℕ) (o : Outcome) (report : Text) → IsTable m.names → is_within m ≡ true → o ≡ outcome_of_run m input budget → status ≡ status_of o.end
-    → n ≡ m → report ≡ report_text n o → record { status = status; out = o.output; report = report } ≡ ran (shown_module m) (module_outcome (shown_module m) input budget)
+    → n ≡ m → report ≡ report_text (shown_module n) o → gives status o.output report ≡ ran (shown_module m) (module_outcome (shown_module m) input budget)
 ran_is m n input budget status o report table within is ends same told =
     let left : o ≡ module_outcome (shown_module m) input budget = is ∙ outcome_same m input budget table within in
-    rw (ends, told, same, report_same m o) (ap (ran (shown_module m)) left)
+    rw (ends, told, same) (ap (ran (shown_module m)) left)

@@ -3,6 +3,7 @@ use Rattle.std.proofs.Common.{◌≡◌, ◌<◌, ◌≤◌, ◌+◌, ℕ, [], O
 use Rattle.std.proofs.lemmas.Bool.{lt-ltb}
 use Rattle.std.proofs.lemmas.List.{length-replicate}
 use Rattle.pv_base.specs.Outside.{Text}
+use Rattle.plain_commands.specs.Status as exit
 use Rattle.plain_commands.specs.Answers.{refuses, too_long_line, with_file}
 use Rattle.plain_commands.specs.declared.answer.Answer.{Answer}
 
@@ -14,14 +15,14 @@ pub with_short : (limit : ℕ) (text name : Text) (next : Answer) → length tex
 with_short limit text name next bound = rw (not_longer limit text bound) refl
 
 -- a text that is too long is refused
-pub with_long : (limit : ℕ) (text name : Text) (next : Answer) → limit < length text → with_file limit text name next ≡ refuses 8 (too_long_line name)
+pub with_long : (limit : ℕ) (text name : Text) (next : Answer) → limit < length text → with_file limit text name next ≡ refuses exit.too_long (too_long_line name)
 with_long limit text name next long = rw (lt-ltb limit (length text) long) refl
 
 -- what holds of the refusal and of what follows holds of the answer
-pub with_either : (P : Answer → Type 0) (limit : ℕ) (text name : Text) (next : Answer) → P (refuses 8 (too_long_line name)) → P next → P (with_file limit text name next)
+pub with_either : (P : Answer → Type 0) (limit : ℕ) (text name : Text) (next : Answer) → P (refuses exit.too_long (too_long_line name)) → P next → P (with_file limit text name next)
 with_either P limit text name next refusal follows = chosen (nat_lt limit (length text))
   where
-    chosen : (b : Bool) → P (if b then refuses 8 (too_long_line name) else next)
+    chosen : (b : Bool) → P (if b then refuses exit.too_long (too_long_line name) else next)
     chosen true = refusal
     chosen false = follows
 

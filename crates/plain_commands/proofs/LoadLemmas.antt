@@ -17,15 +17,13 @@ use Rattle.ir_rules.specs.Reading.{IsWellFormed}
 use Rattle.ir_rules.proofs.NumberingLemmas.{module_within}
 use Rattle.read_laws.proofs.Texts.{texts_stand}
 use Rattle.run_report.specs.Refusals.{refused_module, refused_check}
-use Rattle.code_laws.specs.Reports.{module_refused}
-use Rattle.code_laws.proofs.Reporting.{refused_same}
 use Rattle.plain_commands.specs.Loading.{IsLoaded, IsJudged, refusal_by, refusal_of}
 use Rattle.plain_commands.specs.declared.loading.Loaded.{Loaded}
 use Rattle.plain_commands.specs.declared.loading.Loaded.TheVariants.{Accepted, Refused}
 
 -- the refusal of a module by its first fault
-pub refusal_is : (m : Items) (e : CheckError) (line : Text) → line ≡ refused_check m e → Some e ≡ first_fault (shown_module m) → IsJudged m (Refused line)
-refusal_is m e line is first = ap Some (is ∙ refused_same m e) ∙ ap (option_map (module_refused (shown_module m))) first
+pub refusal_is : (m : Items) (e : CheckError) (line : Text) → line ≡ refused_check (shown_module m) e → Some e ≡ first_fault (shown_module m) → IsJudged m (Refused line)
+refusal_is m e line is first = ap Some is ∙ ap (option_map (refused_check (shown_module m))) first
 
 -- a module that was read and tested
 pub judged_is : (text : Text) (m : Items) (loaded : Loaded) → read_of text ≡ Ok (shown_module m) → IsJudged m loaded → IsLoaded text loaded

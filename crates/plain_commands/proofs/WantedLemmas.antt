@@ -10,9 +10,9 @@ use Rattle.ir_rules.specs.Faults.{first_fault}
 use Rattle.seq_machine.specs.declared.state.End.{End}
 use Rattle.seq_machine.specs.declared.state.End.TheVariants.{Ended, Trapped, Spent}
 use Rattle.code_laws.specs.Runs.{module_outcome}
-use Rattle.code_laws.specs.Reports.{module_refused}
-use Rattle.run_report.specs.Refusals.{refused_module}
+use Rattle.run_report.specs.Refusals.{refused_module, refused_check}
 use Rattle.pv_base.specs.Limits.{file_limit}
+use Rattle.plain_commands.specs.Status as exit
 use Rattle.plain_commands.specs.Answers.{refuses, too_long_line}
 use Rattle.plain_commands.specs.Texts.{Texts}
 use Rattle.plain_commands.specs.Commands.{IsTaken, run_module, ran, status_of, accepted, answer_of, wanted_run, wanted_check}
@@ -36,7 +36,7 @@ short_case text bound (Ok v) is = by_fault (first_fault v) refl
   where
     by_fault : (o : Option CheckError) → first_fault v ≡ o → TextCase text
     by_fault None none = TakenText v bound is none
-    by_fault (Some f) some = FaultyText (module_refused v f) bound (ap refusal_by is ∙ ap (option_map (module_refused v)) some)
+    by_fault (Some f) some = FaultyText (refused_check v f) bound (ap refusal_by is ∙ ap (option_map (refused_check v)) some)
 
 pub text_case : (text : Text) → TextCase text
 text_case text = elim (bounded text) [ inl long ↦ LongText long | inr bound ↦ short_case text bound (read_of text) refl ]
@@ -55,28 +55,28 @@ taken_module text is (LongText long) = absurd (omega (arith, is.0))
 taken_module text is (FaultyText line bound some) = absurd (some_none Text line (refusal_of text) some is.1)
 taken_module text is (TakenText v bound read none) = record { tree = v; read = read; none = none }
 
-ended_low : (e : End) → status_of e ≤ 2
+ended_low : (e : End) → status_of e ≤ exit.spent
 ended_low (Ended v) = omega arith
 ended_low (Trapped t site) = omega arith
 ended_low Spent = omega arith
 
-low_same : (w a : Answer) → w ≡ a → a.status ≤ 2 → w.status ≤ 2
-low_same w a is low = subst (λ (x : Answer). x.status ≤ 2) (sym is) low
+low_same : (w a : Answer) → w ≡ a → a.status ≤ exit.spent → w.status ≤ exit.spent
+low_same w a is low = subst (λ (x : Answer). x.status ≤ exit.spent) (sym is) low
 
 -- ---- run
 
 -- what is wanted of a run
 pub data RunCase (texts : Texts) (code input : Text) (w : Answer) : Type 0 where
-  RunLong : file_limit < length texts.code → w ≡ refuses 8 (too_long_line code) → RunCase texts code input w
-  RunRefused : (line : Text) → length texts.code ≤ file_limit → refusal_of texts.code ≡ Some line → w ≡ refuses 3 line → RunCase texts code input w
-  InputLong : IsTaken texts.code → file_limit < length texts.input → w ≡ refuses 8 (too_long_line input) → RunCase texts code input w
-  RunDone : w.status ≤ 2 → RunCase texts code input w
+  RunLong : file_limit < length texts.code → w ≡ refuses exit.too_long (too_long_line code) → RunCase texts code input w
+  RunRefused : (line : Text) → length texts.code ≤ file_limit → refusal_of texts.code ≡ Some line → w ≡ refuses exit.refused line → RunCase texts code input w
+  InputLong : IsTaken texts.code → file_limit < length texts.input → w ≡ refuses exit.too_long (too_long_line input) → RunCase texts code input w
+  RunDone : w.status ≤ exit.spent → RunCase texts code input w
 
 module _ (texts : Texts) (code input : Text) (budget : ℕ) where
-  pub run_too_long : file_limit < length texts.code → wanted_run texts code input budget ≡ refuses 8 (too_long_line code)
+  pub run_too_long : file_limit < length texts.code → wanted_run texts code input budget ≡ refuses exit.too_long (too_long_line code)
   run_too_long long = with_long file_limit texts.code code (answer_of (read_of texts.code) (run_module texts.input input budget)) long
 
-  pub run_refused : (line : Text) → length texts.code ≤ file_limit → refusal_of texts.code ≡ Some line → wanted_run texts code input budget ≡ refuses 3 line
+  pub run_refused : (line : Text) → length texts.code ≤ file_limit → refusal_of texts.code ≡ Some line → wanted_run texts code input budget ≡ refuses exit.refused line
   run_refused line bound is =
       with_short file_limit texts.code code (answer_of (read_of texts.code) (run_module texts.input input budget)) bound
       ∙ answer_refused (read_of texts.code) (run_module texts.input input budget) line is
@@ -87,10 +87,10 @@ module _ (texts : Texts) (code input : Text) (budget : ℕ) where
       with_short file_limit texts.code code (answer_of (read_of texts.code) (run_module texts.input input budget)) bound
       ∙ answer_accepted (read_of texts.code) (run_module texts.input input budget) v is none
 
-  long_input : (v : ModuleV) → file_limit < length texts.input → run_module texts.input input budget v ≡ refuses 8 (too_long_line input)
+  long_input : (v : ModuleV) → file_limit < length texts.input → run_module texts.input input budget v ≡ refuses exit.too_long (too_long_line input)
   long_input v long = with_long file_limit texts.input input (ran v (module_outcome v texts.input budget)) long
 
-  pub run_input_too_long : IsTaken texts.code → file_limit < length texts.input → wanted_run texts code input budget ≡ refuses 8 (too_long_line input)
+  pub run_input_too_long : IsTaken texts.code → file_limit < length texts.input → wanted_run texts code input budget ≡ refuses exit.too_long (too_long_line input)
   run_input_too_long is long =
       let m = taken_module texts.code is (text_case texts.code) in
       run_taken m.tree is.0 m.read m.none ∙ long_input m.tree long
@@ -115,15 +115,15 @@ module _ (texts : Texts) (code input : Text) (budget : ℕ) where
 
 -- what is wanted of a check
 pub data CheckCase (texts : Texts) (code : Text) (w : Answer) : Type 0 where
-  CheckLong : file_limit < length texts.code → w ≡ refuses 8 (too_long_line code) → CheckCase texts code w
-  CheckRefused : (line : Text) → length texts.code ≤ file_limit → refusal_of texts.code ≡ Some line → w ≡ refuses 3 line → CheckCase texts code w
-  CheckDone : w.status ≡ 0 → CheckCase texts code w
+  CheckLong : file_limit < length texts.code → w ≡ refuses exit.too_long (too_long_line code) → CheckCase texts code w
+  CheckRefused : (line : Text) → length texts.code ≤ file_limit → refusal_of texts.code ≡ Some line → w ≡ refuses exit.refused line → CheckCase texts code w
+  CheckDone : w.status ≡ exit.ended → CheckCase texts code w
 
 module _ (texts : Texts) (code : Text) where
-  pub check_too_long : file_limit < length texts.code → wanted_check texts code ≡ refuses 8 (too_long_line code)
+  pub check_too_long : file_limit < length texts.code → wanted_check texts code ≡ refuses exit.too_long (too_long_line code)
   check_too_long long = with_long file_limit texts.code code (answer_of (read_of texts.code) accepted) long
 
-  pub check_refused : (line : Text) → length texts.code ≤ file_limit → refusal_of texts.code ≡ Some line → wanted_check texts code ≡ refuses 3 line
+  pub check_refused : (line : Text) → length texts.code ≤ file_limit → refusal_of texts.code ≡ Some line → wanted_check texts code ≡ refuses exit.refused line
   check_refused line bound is =
       with_short file_limit texts.code code (answer_of (read_of texts.code) accepted) bound ∙ answer_refused (read_of texts.code) accepted line is
 

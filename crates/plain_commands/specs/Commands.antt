@@ -9,11 +9,12 @@ use Rattle.ir_rules.specs.Faults.{first_fault}
 use Rattle.seq_machine.specs.declared.state.End.{End}
 use Rattle.seq_machine.specs.declared.state.End.TheVariants.{Ended, Trapped, Spent}
 use Rattle.seq_machine.specs.declared.state.Outcome.{Outcome}
-use Rattle.run_report.specs.Refusals.{refused_module}
+use Rattle.run_report.specs.Report.{report_text}
+use Rattle.run_report.specs.Refusals.{refused_module, refused_check, accepted_text}
 use Rattle.code_laws.specs.Runs.{module_outcome}
-use Rattle.code_laws.specs.Reports.{module_report, module_refused, module_accepted}
 use Rattle.pv_base.specs.Limits.{file_limit}
-use Rattle.plain_commands.specs.Answers.{refuses, with_file, IsGiven}
+use Rattle.plain_commands.specs.Status as exit
+use Rattle.plain_commands.specs.Answers.{gives, refuses, with_file, IsGiven}
 use Rattle.plain_commands.specs.Loading.{refusal_of}
 use Rattle.plain_commands.specs.Texts.{Texts, Tells}
 use Rattle.plain_commands.specs.declared.answer.Answer.{Answer}
@@ -21,26 +22,26 @@ use Rattle.plain_commands.specs.declared.loading.Loaded.{Loaded}
 use Rattle.plain_commands.specs.declared.loading.Loaded.TheVariants.{Accepted, Refused as RefusedBy}
 
 abbrev pub status_of : End → ℕ
-status_of (Ended v) = 0
-status_of (Trapped t site) = 1
-status_of Spent = 2
+status_of (Ended v) = exit.ended
+status_of (Trapped t site) = exit.trapped
+status_of Spent = exit.spent
 
 -- the answer of a run: what it printed, and its report
 abbrev pub ran : ModuleV → Outcome → Answer
-ran v o = record { status = status_of o.end; out = o.output; report = module_report v o }
+ran v o = gives (status_of o.end) o.output (report_text v o)
 
 -- the answer to a module that is accepted: how many functions it defines, how many globals and how many instructions it has
 abbrev pub accepted : ModuleV → Answer
-accepted v = record { status = 0; out = module_accepted v; report = [] }
+accepted v = gives exit.ended (accepted_text v) []
 
 -- the answer to a module: the refusal by its first fault, or what follows where it has none
 abbrev pub unless_fault : ModuleV → Option CheckError → Answer → Answer
-unless_fault v (Some e) next = refuses 3 (module_refused v e)
+unless_fault v (Some e) next = refuses exit.refused (refused_check v e)
 unless_fault v None next = next
 
 -- the answer to what was read of a text: the refusal by its first fault, or what follows for a module that breaks no rule
 abbrev pub answer_of : Result ModuleV ReadError → (ModuleV → Answer) → Answer
-answer_of (Err e) next = refuses 3 (refused_module e)
+answer_of (Err e) next = refuses exit.refused (refused_module e)
 answer_of (Ok v) next = unless_fault v (first_fault v) (next v)
 
 -- the run of a module on the text of an input, which has this name
@@ -85,10 +86,10 @@ pub record RunsModule (content : Text → Option Text) (input : Text) (budget : 
 
 -- what is answered to a run of what a module was taken for
 abbrev pub RunsLoaded : (Text → Option Text) → Text → ℕ → Loaded → ℕ → ℕ → Answer → Type 0
-RunsLoaded content input budget (RefusedBy line) before after a = (after ≡ before) × (a ≡ refuses 3 line)
+RunsLoaded content input budget (RefusedBy line) before after a = (after ≡ before) × (a ≡ refuses exit.refused line)
 RunsLoaded content input budget (Accepted m) before after a = RunsModule content input budget (shown_module m) before after a
 
 -- what is answered to its check
 abbrev pub ChecksLoaded : Loaded → Answer → Type 0
-ChecksLoaded (RefusedBy line) a = a ≡ refuses 3 line
+ChecksLoaded (RefusedBy line) a = a ≡ refuses exit.refused line
 ChecksLoaded (Accepted m) a = a ≡ accepted (shown_module m)

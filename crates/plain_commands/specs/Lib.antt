@@ -1,3 +1,4 @@
+pub mod Status
 pub mod Answers
 pub mod Loading
 pub mod Texts

@@ -1,6 +1,6 @@
 //! What a call answers: a status, what is put out and what is reported.
 ghost use Rattle.std.specs.Prelude.{◌≡◌};
-ghost use Rattle.plain_commands.specs.Answers.{refuses};
+ghost use Rattle.plain_commands.specs.Answers.{gives, refuses};
 
 use pv_base::bytes::Bytes;
 use std::alloc::Global;
@@ -13,13 +13,21 @@ pub struct Answer {
     pub report: Bytes,
 }
 
+impl Answer {
+    pub fn new(status: u8, out: Bytes, report: Bytes) -> Answer
+        ensures { result ≡ gives status out report }
+    {
+        Answer {
+            status,
+            out,
+            report,
+        }
+    }
+}
+
 /// A refusal with its line, which puts nothing out.
 pub fn refuse(alloc: Global, status: u8, line: Bytes) -> Answer
     ensures { result ≡ refuses status line }
 {
-    Answer {
-        status,
-        out: Bytes::new(alloc),
-        report: line,
-    }
+    Answer::new(status, Bytes::new(alloc), line)
 }

@@ -73,11 +73,7 @@ fn run_answer(program: &Program, input: &[u8], budget: u64) -> Result<Answer, Me
     tell_names(program.module());
     let outcome = run(program, input, budget)?;
     let report = report_text(program.alloc(), program.module(), &outcome)?;
-    Ok(Answer {
-        status: status_of(outcome.end),
-        out: outcome.output,
-        report,
-    })
+    Ok(Answer::new(status_of(outcome.end), outcome.output, report))
 }
 
 /// Reads the input and runs the program on it.
@@ -124,15 +120,15 @@ fn run_loaded<F: Files>(
 pub fn run_command<F: Files>(
     alloc: Global,
     files: &mut F,
-    code: &str,
+    module: &str,
     input: &str,
     budget: u64,
 ) -> Result<Answer, Memory>
     ensures content { F.content files.new ≡ F.content files.old }
     ensures later { F.faults files.old ≤ F.faults files.new }
-    ensures answers { IfOk result (Answers (TellsRun (F.content files.old) code.now input.now) (λ t. wanted_run t code.now input.now budget) (RunReads code.now input.now) (F.faults files.old) (F.faults files.new)) }
+    ensures answers { IfOk result (Answers (TellsRun (F.content files.old) «module».now input.now) (λ t. wanted_run t «module».now input.now budget) (RunReads «module».now input.now) (F.faults files.old) (F.faults files.new)) }
 {
-    let text = match read_file(alloc, files, code, FILE_LIMIT)? {
+    let text = match read_file(alloc, files, module, FILE_LIMIT)? {
         Ok(text) => text,
         Err(answer) => return Ok(answer),
     };
@@ -148,22 +144,18 @@ fn check_loaded(alloc: Global, loaded: Loaded) -> Result<Answer, Memory>
         Loaded::Refused(line) => Ok(refuse(alloc, REFUSED, line)),
         Loaded::Accepted(checked) => {
             let out = accepted_text(alloc, checked.module())?;
-            Ok(Answer {
-                status: ENDED,
-                out,
-                report: Bytes::new(alloc),
-            })
+            Ok(Answer::new(ENDED, out, Bytes::new(alloc)))
         }
     }
 }
 
 /// `check MODULE`
-pub fn check_command<F: Files>(alloc: Global, files: &mut F, code: &str) -> Result<Answer, Memory>
+pub fn check_command<F: Files>(alloc: Global, files: &mut F, module: &str) -> Result<Answer, Memory>
     ensures content { F.content files.new ≡ F.content files.old }
     ensures later { F.faults files.old ≤ F.faults files.new }
-    ensures answers { IfOk result (Answers (TellsCheck (F.content files.old) code.now) (λ t. wanted_check t code.now) (CheckReads code.now) (F.faults files.old) (F.faults files.new)) }
+    ensures answers { IfOk result (Answers (TellsCheck (F.content files.old) «module».now) (λ t. wanted_check t «module».now) (CheckReads «module».now) (F.faults files.old) (F.faults files.new)) }
 {
-    let text = match read_file(alloc, files, code, FILE_LIMIT)? {
+    let text = match read_file(alloc, files, module, FILE_LIMIT)? {
         Ok(text) => text,
         Err(answer) => return Ok(answer),
     };

@@ -3,6 +3,7 @@ use Rattle.std.proofs.Common.{◌≡◌, ℕ, [], refl, inl, Option, Result, Ok,
 use Rattle.pv_base.specs.Outside.{Text}
 use Rattle.pv_base.specs.declared.want.Memory.{Memory}
 use Rattle.command_words.specs.Requests.{usage, refused, run, check}
+use Rattle.plain_commands.specs.Status as exit
 use Rattle.plain_commands.specs.Answers.{refuses}
 use Rattle.plain_commands.specs.Texts.{Texts, Answers}
 use Rattle.plain_commands.specs.Commands.{wanted_run, wanted_check, TellsRun, TellsCheck, RunReads, CheckReads}
@@ -13,11 +14,11 @@ no_texts : Texts
 no_texts = record { code = []; input = [] }
 
 -- the answer to words that are refused with a line
-pub usage_answered : (content : Text → Option Text) (line : Text) (count : ℕ) (a : Answer) → a ≡ refuses 4 line → AnswersWords content (usage line) count count a
+pub usage_answered : (content : Text → Option Text) (line : Text) (count : ℕ) (a : Answer) → a ≡ refuses exit.usage line → AnswersWords content (usage line) count count a
 usage_answered content line count a is = record { help = []; answers = record { texts = no_texts; told = tt; is = inl (refl, is) } }
 
 -- the answer to words that `clap` refuses
-pub help_answered : (content : Text → Option Text) (text : Text) (count : ℕ) (a : Answer) → a ≡ refuses 4 text → AnswersWords content refused count count a
+pub help_answered : (content : Text → Option Text) (text : Text) (count : ℕ) (a : Answer) → a ≡ refuses exit.usage text → AnswersWords content refused count count a
 help_answered content text count a is = record { help = text; answers = record { texts = no_texts; told = tt; is = inl (refl, is) } }
 
 -- the answer to a run is what its words ask

@@ -2,7 +2,8 @@
 use Rattle.std.proofs.Common.{◌≡◌, ◌≢◌, ◌<◌, ◌≤◌, ◌⊎◌, inl, inr, ℕ, refl, sym, ◌∙◌, ap, subst, [], Option, arith}
 use Rattle.pv_base.specs.Outside.{Text, Rose, AppendsFront, appended}
 use Rattle.command_words.specs.Requests.{Asked, usage, refused, lacking, run, check, IsAnswered}
-use Rattle.plain_commands.specs.Answers.{IsAnswer, IsQuiet, IsGiven, IsReadFault, fault_line, too_long_line}
+use Rattle.plain_commands.specs.Status as exit
+use Rattle.plain_commands.specs.Answers.{gives, IsAnswer, IsQuiet, IsGiven, IsReadFault, fault_line, too_long_line}
 use Rattle.plain_commands.specs.Texts.{Texts}
 use Rattle.plain_commands.specs.declared.answer.Answer.{Answer}
 use Rattle.plain_commands.proofs.FileLemmas.{some_text}
@@ -19,7 +20,7 @@ no_answer end answer is = grind arith
 reported_of : (end : ℕ) → IsAnswer end → IsReported end
 reported_of end answer = grind arith
 
-below_nine : (end : ℕ) → IsAnswer end → end ≤ 8
+below_nine : (end : ℕ) → IsAnswer end → end ≤ exit.too_long
 below_nine end answer = grind arith
 
 apart : (n : ℕ) → (n ≡ 7) ⊎ ((n < 7) ⊎ (7 < n))
@@ -29,7 +30,7 @@ apart n = grind arith
 seven_or : (n : ℕ) → (n ≡ 7) ⊎ (n ≢ 7)
 seven_or n = elim (apart n) [ inl seven ↦ inl seven | inr other ↦ inr (λ seven. elim other [ inl less ↦ omega arith | inr more ↦ omega arith ]) ]
 
-quiet_not : (end : ℕ) → IsQuiet end → (end ≡ 6) ⊎ (end ≡ 7) → ⊥
+quiet_not : (end : ℕ) → IsQuiet end → (end ≡ exit.write_fault) ⊎ (end ≡ exit.memory) → ⊥
 quiet_not end quiet is = grind arith
 
 -- words that are refused read no file
@@ -63,20 +64,20 @@ some_texts content (check code) =
     record { texts = record { code = c.text; input = [] }; told = c.is }
 
 given_status : (asked : Asked) (texts : Texts) (help : Text) (before after : ℕ) (a : Answer)
-    → IsGiven (wanted_of texts help asked) (FaultAt asked texts) before after a → IsAnswer a.status ⊎ (a.status ≡ 5)
+    → IsGiven (wanted_of texts help asked) (FaultAt asked texts) before after a → IsAnswer a.status ⊎ (a.status ≡ exit.read_fault)
 given_status asked texts help before after a (inl given) =
     inl (subst (λ (x : Answer). IsAnswer x.status) (sym given.1) (is_answer asked texts (wanted_of texts help asked) (wanted_case asked texts help)))
 given_status asked texts help before after a (inr fault) = inr (ap (λ (x : Answer). x.status) fault.is)
 
-is_neither : (status : ℕ) → IsAnswer status ⊎ (status ≡ 5) → (status ≡ 6) ⊎ (status ≡ 7) → ⊥
+is_neither : (status : ℕ) → IsAnswer status ⊎ (status ≡ exit.read_fault) → (status ≡ exit.write_fault) ⊎ (status ≡ exit.memory) → ⊥
 is_neither status is other = grind arith
 
 -- what is given is neither the status of a write that failed nor that of want of memory
-pub not_six : (content : Text → Option Text) (asked : Asked) (before after : ℕ) (a : Answer) → AnswersWords content asked before after a → a.status ≢ 6
+pub not_six : (content : Text → Option Text) (asked : Asked) (before after : ℕ) (a : Answer) → AnswersWords content asked before after a → a.status ≢ exit.write_fault
 not_six content asked before after a h six = is_neither a.status (given_status asked h.answers.texts h.help before after a h.answers.is) (inl six)
 
 not_seven : (content : Text → Option Text) (asked : Asked) (before after end : ℕ) (a : Answer) → AnswersWords content asked before after a
-    → (end ≡ a.status) ⊎ (end ≡ 6) → end ≢ 7
+    → (end ≡ a.status) ⊎ (end ≡ exit.write_fault) → end ≢ exit.memory
 not_seven content asked before after end a h (inl same) seven =
     is_neither a.status (given_status asked h.answers.texts h.help before after a h.answers.is) (inr (sym same ∙ seven))
 not_seven content asked before after end a h (inr six) seven = omega arith
@@ -100,14 +101,14 @@ ends_given asked before after end a given delivers answered content later = reco
 
 -- and so does want of memory, where nothing was put
 pub ends_without : (asked : Asked) (before after : Seen) → after.out ≡ before.out → after.report ≡ before.report
-    → after.files.content ≡ before.files.content → before.files.faults ≤ after.files.faults → TopEnds asked before after 7
+    → after.files.content ≡ before.files.content → before.files.faults ≤ after.files.faults → TopEnds asked before after exit.memory
 ends_without asked before after out report content later =
     let some = some_texts before.files.content asked in
     record {
       texts = some.texts;
       told = some.told;
       help = [];
-      given = record { status = 7; out = []; report = [] };
+      given = gives exit.memory [] [];
       is_given = λ never. absurd (never refl);
       delivered = λ never. absurd (never refl);
       memory = λ _. (out, report);
@@ -131,16 +132,16 @@ module _ (asked : Asked) (before after : Seen) (end : ℕ) (h : TopEnds asked be
   the_case : Wanted asked h.texts (wanted_of h.texts h.help asked)
   the_case = wanted_case asked h.texts h.help
 
-  fault_status : IsFault → h.given.status ≡ 5
+  fault_status : IsFault → h.given.status ≡ exit.read_fault
   fault_status fault = ap (λ (a : Answer). a.status) fault.is
 
   -- an end that is an answer is that of what is wanted
-  by_given : IsAnswer end → (end ≡ h.given.status) ⊎ (end ≡ 6) → Is → (h.given ≡ wanted) × (end ≡ wanted.status)
+  by_given : IsAnswer end → (end ≡ h.given.status) ⊎ (end ≡ exit.write_fault) → Is → (h.given ≡ wanted) × (end ≡ wanted.status)
   by_given answer (inl e) (inl given) = (given.1, e ∙ ap (λ (a : Answer). a.status) given.1)
   by_given answer (inl e) (inr fault) = absurd (no_answer end answer (inl (e ∙ fault_status fault)))
   by_given answer (inr six) is = absurd (no_answer end answer (inr (inl six)))
 
-  never_seven : IsAnswer end → end ≢ 7
+  never_seven : IsAnswer end → end ≢ exit.memory
   never_seven answer seven = no_answer end answer (inr (inr seven))
 
   is_wanted : IsAnswer end → (h.given ≡ wanted) × (end ≡ wanted.status)
@@ -152,7 +153,7 @@ module _ (asked : Asked) (before after : Seen) (end : ℕ) (h : TopEnds asked be
       ∙ ap (λ (a : Answer). appended before.report.held a.report) (is_wanted answer).0 ∙ ap (appended before.report.held) is
 
   -- where one status is wanted, it comes, but for faults
-  ends_by : (k : ℕ) → wanted.status ≡ k → (end ≡ h.given.status) ⊎ (end ≡ 6) → Is → (end ≡ k) ⊎ IsFaulty end
+  ends_by : (k : ℕ) → wanted.status ≡ k → (end ≡ h.given.status) ⊎ (end ≡ exit.write_fault) → Is → (end ≡ k) ⊎ IsFaulty end
   ends_by k is (inl e) (inl given) = inl (e ∙ ap (λ (a : Answer). a.status) given.1 ∙ is)
   ends_by k is (inl e) (inr fault) = inr (inl (e ∙ fault_status fault))
   ends_by k is (inr six) given = inr (inr (inl six))
@@ -163,71 +164,71 @@ module _ (asked : Asked) (before after : Seen) (end : ℕ) (h : TopEnds asked be
     | inr never ↦ ends_by k is (h.delivered never).status (h.is_given never)
   ]
 
-  at_most : (end ≡ h.given.status) ⊎ (end ≡ 6) → Is → end ≤ 8
+  at_most : (end ≡ h.given.status) ⊎ (end ≡ exit.write_fault) → Is → end ≤ exit.too_long
   at_most (inl e) (inl given) = below_nine end (subst IsAnswer (sym (e ∙ ap (λ (a : Answer). a.status) given.1)) (is_answer asked h.texts wanted the_case))
   at_most (inl e) (inr fault) = omega (arith, e, fault_status fault)
   at_most (inr six) is = omega arith
 
-  statuses : end ≤ 8
+  statuses : end ≤ exit.too_long
   statuses = elim (seven_or end) [ inl seven ↦ omega arith | inr never ↦ at_most (h.delivered never).status (h.is_given never) ]
 
-  refuses_so : end ≡ 3 → (line : Text) × RefusedBy asked h.texts line × Reports before after line
+  refuses_so : end ≡ exit.refused → (line : Text) × RefusedBy asked h.texts line × Reports before after line
   refuses_so three =
       let answer : IsAnswer end = inl (omega arith) in
       let t = at_three asked h.texts wanted (sym (is_wanted answer).1 ∙ three) the_case in
       (t.0, t.1, reports answer t.0 t.2)
 
-  too_long_so : end ≡ 8 → (name : Text) × TooLong asked h.texts name × Reports before after (too_long_line name)
+  too_long_so : end ≡ exit.too_long → (name : Text) × TooLong asked h.texts name × Reports before after (too_long_line name)
   too_long_so eight =
       let answer : IsAnswer end = inr eight in
       let t = at_eight asked h.texts wanted (sym (is_wanted answer).1 ∙ eight) the_case in
       (t.0, t.1, reports answer (too_long_line t.0) t.2)
 
-  usage_so : end ≡ 4 → IsUsage asked
+  usage_so : end ≡ exit.usage → IsUsage asked
   usage_so four = at_four asked h.texts wanted (sym (is_wanted (inl (omega arith))).1 ∙ four) the_case
 
-  checked_one : IsCheck asked → end ≢ 1
+  checked_one : IsCheck asked → end ≢ exit.trapped
   checked_one is one = (of_check_only asked h.texts wanted is the_case).0 (sym (is_wanted (inl (omega arith))).1 ∙ one)
 
-  checked_two : IsCheck asked → end ≢ 2
+  checked_two : IsCheck asked → end ≢ exit.spent
   checked_two is two = (of_check_only asked h.texts wanted is the_case).1 (sym (is_wanted (inl (omega arith))).1 ∙ two)
 
   -- the read that failed
-  fault_by : end ≡ 5 → (end ≡ h.given.status) ⊎ (end ≡ 6) → Is → IsFault
+  fault_by : end ≡ exit.read_fault → (end ≡ h.given.status) ⊎ (end ≡ exit.write_fault) → Is → IsFault
   fault_by five (inl e) (inl given) =
       absurd (no_answer end (subst IsAnswer (sym (e ∙ ap (λ (a : Answer). a.status) given.1)) (is_answer asked h.texts wanted the_case)) (inl five))
   fault_by five (inl e) (inr fault) = fault
   fault_by five (inr six) is = absurd (omega arith)
 
-  five_not : end ≡ 5 → end ≢ 7
+  five_not : end ≡ exit.read_fault → end ≢ exit.memory
   five_not five seven = omega arith
 
-  the_fault : end ≡ 5 → IsFault
+  the_fault : end ≡ exit.read_fault → IsFault
   the_fault five = fault_by five (h.delivered (five_not five)).status (h.is_given (five_not five))
 
-  fault_reports : end ≡ 5 → (name : Text) × FaultAt asked h.texts name × Reports before after (fault_line name)
+  fault_reports : end ≡ exit.read_fault → (name : Text) × FaultAt asked h.texts name × Reports before after (fault_line name)
   fault_reports five =
       let fault = the_fault five in
       (fault.name, fault.may, (h.delivered (five_not five)).report (inl (omega arith)) ∙ ap (λ (a : Answer). appended before.report.held a.report) fault.is)
 
-  told_by : before.files.faults < after.files.faults → (end ≡ h.given.status) ⊎ (end ≡ 6) → Is → (5 ≤ end) × (end ≤ 7)
+  told_by : before.files.faults < after.files.faults → (end ≡ h.given.status) ⊎ (end ≡ exit.write_fault) → Is → IsFaulty end
   told_by rose (inl e) (inl given) = absurd (omega (arith, rose, given.0))
-  told_by rose (inl e) (inr fault) = let five : end ≡ 5 = e ∙ fault_status fault in (omega arith, omega arith)
-  told_by rose (inr six) is = (omega arith, omega arith)
+  told_by rose (inl e) (inr fault) = inl (e ∙ fault_status fault)
+  told_by rose (inr six) is = inr (inl six)
 
-  read_told : before.files.faults < after.files.faults → (5 ≤ end) × (end ≤ 7)
-  read_told rose = elim (seven_or end) [ inl seven ↦ (omega arith, omega arith) | inr never ↦ told_by rose (h.delivered never).status (h.is_given never) ]
+  read_told : before.files.faults < after.files.faults → IsFaulty end
+  read_told rose = elim (seven_or end) [ inl seven ↦ inr (inr seven) | inr never ↦ told_by rose (h.delivered never).status (h.is_given never) ]
 
-  said_by : IsUsage asked → (end ≡ 4) ⊎ IsFaulty end → (end ≡ 4) ⊎ (end ≡ 6) ⊎ (end ≡ 7)
+  said_by : IsUsage asked → (end ≡ exit.usage) ⊎ IsFaulty end → (end ≡ exit.usage) ⊎ (end ≡ exit.write_fault) ⊎ (end ≡ exit.memory)
   said_by is (inl four) = inl four
   said_by is (inr (inl five)) = let fault = the_fault five in absurd (no_read asked h.texts fault.name is fault.may)
   said_by is (inr (inr other)) = inr other
 
-  usage_told : IsUsage asked → (end ≡ 4) ⊎ (end ≡ 6) ⊎ (end ≡ 7)
-  usage_told is = said_by is (ends_as 4 (said_so asked h.texts h.help is))
+  usage_told : IsUsage asked → (end ≡ exit.usage) ⊎ (end ≡ exit.write_fault) ⊎ (end ≡ exit.memory)
+  usage_told is = said_by is (ends_as exit.usage (said_so asked h.texts h.help is))
 
   -- an answer that puts nothing out leaves the output
-  quiet_by : IsQuiet end → (end ≡ h.given.status) ⊎ (end ≡ 6) → Is → h.given.out ≡ []
+  quiet_by : IsQuiet end → (end ≡ h.given.status) ⊎ (end ≡ exit.write_fault) → Is → h.given.out ≡ []
   quiet_by quiet (inl e) (inl given) =
       ap (λ (a : Answer). a.out) given.1 ∙ is_quiet asked h.texts wanted (subst IsQuiet (e ∙ ap (λ (a : Answer). a.status) given.1) quiet) the_case
   quiet_by quiet (inl e) (inr fault) = ap (λ (a : Answer). a.out) fault.is
@@ -235,13 +236,13 @@ module _ (asked : Asked) (before after : Seen) (end : ℕ) (h : TopEnds asked be
 
   quiet_leaves : IsQuiet end → after.out.held ≡ before.out.held
   quiet_leaves quiet =
-      let never : end ≢ 7 = λ seven. quiet_not end quiet (inr seven) in
+      let never : end ≢ exit.memory = λ seven. quiet_not end quiet (inr seven) in
       same_after_none before.out.held after.out.held h.given.out (quiet_by quiet (h.delivered never).status (h.is_given never)) (h.delivered never).out_front
 
   abbrev DeliversThis : Answer → Type 0
   DeliversThis a = Delivers a end before.out after.out before.report after.report
 
-  delivers_by : end ≢ 5 → DeliversThis h.given → Is → ((end ≡ 6) × (after.out.held ≡ before.out.held)) ⊎ DeliversThis wanted
+  delivers_by : end ≢ exit.read_fault → DeliversThis h.given → Is → ((end ≡ exit.write_fault) × (after.out.held ≡ before.out.held)) ⊎ DeliversThis wanted
   delivers_by five d (inl given) = inr (subst (λ (a : Answer). DeliversThis a) given.1 d)
   delivers_by five d (inr fault) = elim d.status [
     | inl e ↦ absurd (five (e ∙ fault_status fault))
@@ -252,16 +253,16 @@ module _ (asked : Asked) (before after : Seen) (end : ℕ) (h : TopEnds asked be
   front_by calm d (inl given) = subst (λ (a : Answer). AppendsFront before.report.held after.report.held a.report) given.1 d.report_front
   front_by calm d (inr fault) = absurd (calm fault.rose)
 
-  six_not : end ≡ 6 → end ≢ 7
+  six_not : end ≡ exit.write_fault → end ≢ exit.memory
   six_not six seven = omega arith
 
-  write_fault : end ≡ 6 → Rose before.out.faults after.out.faults ⊎ Rose before.report.faults after.report.faults
+  write_fault : end ≡ exit.write_fault → Rose before.out.faults after.out.faults ⊎ Rose before.report.faults after.report.faults
   write_fault six = (h.delivered (six_not six)).fault six
 
-  same_counts : end ≡ 7 → (before.out.faults ≡ after.out.faults) × (before.report.faults ≡ after.report.faults)
+  same_counts : end ≡ exit.memory → (before.out.faults ≡ after.out.faults) × (before.report.faults ≡ after.report.faults)
   same_counts seven = (sym (ap (λ (s : SinkSeen). s.faults) (h.memory seven).0), sym (ap (λ (s : SinkSeen). s.faults) (h.memory seven).1))
 
-  write_told : (before.out.faults < after.out.faults) ⊎ (before.report.faults < after.report.faults) → end ≡ 6
+  write_told : (before.out.faults < after.out.faults) ⊎ (before.report.faults < after.report.faults) → end ≡ exit.write_fault
   write_told rose = elim (seven_or end) [
     | inl seven ↦ absurd (elim rose [ inl less ↦ omega (arith, (same_counts seven).0) | inr less ↦ omega (arith, (same_counts seven).1) ])
     | inr never ↦ (h.delivered never).told rose
@@ -279,15 +280,15 @@ module _ (asked : Asked) (before after : Seen) (end : ℕ) (h : TopEnds asked be
     | inr never ↦ (h.delivered never).rooms
   ]
 
-  no_write : Calm before after → end ≢ 6
+  no_write : Calm before after → end ≢ exit.write_fault
   no_write calm six = elim (write_fault six) [ inl rose ↦ calm.out rose | inr rose ↦ calm.report rose ]
 
-  complete_by : Calm before after → (end ≡ h.given.status) ⊎ (end ≡ 6) → Is → end ≡ wanted.status
+  complete_by : Calm before after → (end ≡ h.given.status) ⊎ (end ≡ exit.write_fault) → Is → end ≡ wanted.status
   complete_by calm (inl e) (inl given) = e ∙ ap (λ (a : Answer). a.status) given.1
   complete_by calm (inl e) (inr fault) = absurd (calm.files fault.rose)
   complete_by calm (inr six) is = absurd (no_write calm six)
 
-  completes : Calm before after → (end ≡ 7) ⊎ (end ≡ wanted.status)
+  completes : Calm before after → (end ≡ exit.memory) ⊎ (end ≡ wanted.status)
   completes calm = elim (seven_or end) [ inl seven ↦ inl seven | inr never ↦ inr (complete_by calm (h.delivered never).status (h.is_given never)) ]
 
   the_laws : TopSays asked before after end h.texts wanted
@@ -295,14 +296,14 @@ module _ (asked : Asked) (before after : Seen) (end : ℕ) (h : TopEnds asked be
     statuses = statuses;
     checked = λ is. (checked_one is, checked_two is);
     refused = refuses_so;
-    refused_is_told = λ line is. ends_as 3 (ap (λ (a : Answer). a.status) (refused_so asked h.texts h.help line is));
+    refused_is_told = λ line is. ends_as exit.refused (ap (λ (a : Answer). a.status) (refused_so asked h.texts h.help line is));
     usage = usage_so;
     usage_is_told = usage_told;
     read_fault = λ five. (the_fault five).rose;
     read_fault_line = fault_reports;
     read_told = read_told;
     too_long = too_long_so;
-    too_long_is_told = λ name is. ends_as 8 (ap (λ (a : Answer). a.status) (long_so asked h.texts h.help name is));
+    too_long_is_told = λ name is. ends_as exit.too_long (ap (λ (a : Answer). a.status) (long_so asked h.texts h.help name is));
     quiet = quiet_leaves;
     delivers = λ five seven. delivers_by five (h.delivered seven) (h.is_given seven);
     report_front = λ calm seven. front_by calm (h.delivered seven) (h.is_given seven);

@@ -2,6 +2,7 @@
 use Rattle.std.specs.Prelude.{◌≡◌, ◌≢◌, ◌≤◌, ◌⊎◌, ℕ, Option}
 use Rattle.pv_base.specs.Outside.{Text}
 use Rattle.command_words.specs.Requests.{Asked, IsAnswered}
+use Rattle.plain_commands.specs.Status as exit
 use Rattle.plain_commands.specs.Answers.{IsGiven}
 use Rattle.plain_commands.specs.Texts.{Texts}
 use Rattle.plain_commands.specs.declared.answer.Answer.{Answer}
@@ -34,12 +35,12 @@ pub record TopEnds (asked : Asked) (before after : Seen) (end : ℕ) : Type 0 wh
   pub help : Text
   -- what is given is what words and texts determine, with no read that failed, or the line of the one that did
   pub given : Answer
-  pub is_given : end ≢ 7 → IsGiven (wanted_of texts help asked) (FaultAt asked texts) before.files.faults after.files.faults given
+  pub is_given : end ≢ exit.memory → IsGiven (wanted_of texts help asked) (FaultAt asked texts) before.files.faults after.files.faults given
   -- it is put out and reported, unless a write failed
-  pub delivered : end ≢ 7 → Delivers given end before.out after.out before.report after.report
+  pub delivered : end ≢ exit.memory → Delivers given end before.out after.out before.report after.report
   -- want of memory puts nothing
-  pub memory : end ≡ 7 → (after.out ≡ before.out) × (after.report ≡ before.report)
+  pub memory : end ≡ exit.memory → (after.out ≡ before.out) × (after.report ≡ before.report)
   -- what no parse of words gives is answered by want of memory alone
-  pub answered : (end ≡ 7) ⊎ IsAnswered asked
+  pub answered : (end ≡ exit.memory) ⊎ IsAnswered asked
   pub content : after.files.content ≡ before.files.content
   pub later : before.files.faults ≤ after.files.faults

@@ -2,7 +2,8 @@
 use Rattle.std.specs.Prelude.{ℕ, Option, [], ⊤}
 use Rattle.pv_base.specs.Outside.{Text}
 use Rattle.command_words.specs.Requests.{Asked, usage, refused, lacking, run, check}
-use Rattle.plain_commands.specs.Answers.{refuses}
+use Rattle.plain_commands.specs.Status as exit
+use Rattle.plain_commands.specs.Answers.{gives, refuses}
 use Rattle.plain_commands.specs.Texts.{Texts, Answers}
 use Rattle.plain_commands.specs.Commands.{wanted_run, wanted_check, TellsRun, TellsCheck, RunReads, CheckReads}
 use Rattle.plain_commands.specs.declared.answer.Answer.{Answer}
@@ -16,9 +17,9 @@ IsUsage _ = ⊥
 -- What the texts determine, and the words with a text by which `clap` refuses some. What lacks a word is answered by nothing,
 -- but for want of memory.
 abbrev pub wanted_of : Texts → Text → Asked → Answer
-wanted_of texts help (usage line) = refuses 4 line
-wanted_of texts help refused = refuses 4 help
-wanted_of texts help lacking = record { status = 0; out = []; report = [] }
+wanted_of texts help (usage line) = refuses exit.usage line
+wanted_of texts help refused = refuses exit.usage help
+wanted_of texts help lacking = gives exit.ended [] []
 wanted_of texts help (run code input budget) = wanted_run texts code input budget
 wanted_of texts help (check code) = wanted_check texts code
 

@@ -29,11 +29,11 @@ fn answer_request<F: Files>(
         Request::Usage { line } => Ok(refuse(alloc, USAGE, line)),
         Request::Refused { text } => Ok(refuse(alloc, USAGE, text)),
         Request::Run {
-            code,
+            module,
             input,
             budget,
-        } => run_command(alloc, files, code.as_str(), input.as_str(), budget),
-        Request::Check { code } => check_command(alloc, files, code.as_str()),
+        } => run_command(alloc, files, module.as_str(), input.as_str(), budget),
+        Request::Check { module } => check_command(alloc, files, module.as_str()),
     }
 }
 

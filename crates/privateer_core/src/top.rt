@@ -1,5 +1,6 @@
 //! The top call.
 ghost use Rattle.std.specs.Prelude.{◌≡◌, ◌≢◌, ◌≤◌};
+ghost use Rattle.plain_commands.specs.Status as exit;
 ghost use Rattle.privateer_core.specs.Delivering.{Delivers, PutsAll, sink_seen};
 ghost use Rattle.privateer_core.specs.Ends.{TopEnds, seen, files_seen};
 ghost use Rattle.command_words.specs.Requests.{asked_of};
@@ -26,7 +27,7 @@ fn put_all<S: Sink>(sink: &mut S, bytes: &Bytes) -> bool
 
 /// Delivers an answer: the output first, then the report. Every plain command ends here.
 fn deliver<O: Sink, R: Sink>(answer: &Answer, out: &mut O, report: &mut R) -> u8
-    requires { answer.now.status ≢ 6 }
+    requires { answer.now.status ≢ exit.write_fault }
     ensures { Delivers answer.now result
         (sink_seen (O.held out.old) (O.faults out.old) (O.room out.old)) (sink_seen (O.held out.new) (O.faults out.new) (O.room out.new))
         (sink_seen (R.held report.old) (R.faults report.old) (R.room report.old)) (sink_seen (R.held report.new) (R.faults report.new) (R.room report.new)) }
@@ -40,9 +41,8 @@ fn deliver<O: Sink, R: Sink>(answer: &Answer, out: &mut O, report: &mut R) -> u8
     answer.status
 }
 
-/// Runs the command that the words ask for, and answers the status of the process: 0 the run ended, 1 it trapped, 2 its
-/// budget was spent, 3 the module was refused, 4 the words were, 5 a read failed, 6 a write failed, 7 memory was refused,
-/// 8 a file is too long. The first word is the program's name.
+/// Runs the command that the words ask for, and answers the status of the process, one of `plain_commands::status`. The first
+/// word is the program's name.
 pub fn plain_top<F: Files, O: Sink, R: Sink>(
     alloc: Global,
     words: &List<Bytes>,

@@ -1,5 +1,5 @@
 -- The lines that say why a module is refused, and the line of one that is accepted.
-use Rattle.std.specs.Prelude.{◌++◌, not, ℕ, Bool, [], length, count_by, sum_by, codes, decimal}
+use Rattle.std.specs.Prelude.{◌++◌, not, ℕ, Bool, [], length, slice_get, count_by, sum_by, codes, decimal}
 use Rattle.pv_base.specs.Outside.{Text}
 use Rattle.ir_lex.specs.declared.token.Cause.{Cause}
 use Rattle.ir_lex.specs.declared.token.Cause.TheVariants as cause
@@ -9,11 +9,10 @@ use Rattle.ir_rules.specs.declared.fault.CheckCause.TheVariants as rule
 use Rattle.ir_rules.specs.declared.fault.CheckSite.{CheckSite}
 use Rattle.ir_rules.specs.declared.fault.CheckSite.TheVariants as place
 use Rattle.ir_rules.specs.declared.fault.CheckError.{CheckError}
+use Rattle.ir_rules.specs.Seen.{ModuleV}
 use Rattle.ir_tree.specs.declared.items.Block.{Block}
 use Rattle.ir_tree.specs.declared.items.Function.{Function}
-use Rattle.ir_tree.specs.Modules.{Items}
-use Rattle.ir_printer.specs.Items.{site_text}
-use Rattle.run_report.specs.Report.{global_text}
+use Rattle.run_report.specs.Report.{global_text, site_name}
 
 -- why a module's text is refused, with the word that is outside the language
 abbrev pub cause_text : Cause → Text
@@ -47,26 +46,28 @@ rule_word rule.NoMain = codes "no-main"
 rule_word rule.MainType = codes "main-type"
 
 -- where it breaks it: ` @g`, ` @f:12`, or nothing where the whole module does
-abbrev pub place_text : Items → CheckSite → Text
-place_text m (place.Global global) = codes " " ++ global_text m global
-place_text m (place.At site) = codes " " ++ site_text m site
-place_text m place.Whole = []
+abbrev pub place_text : ModuleV → CheckSite → Text
+place_text v (place.Global global) = codes " " ++ global_text (slice_get v.globals global)
+place_text v (place.At site) = codes " " ++ site_name v site
+place_text v place.Whole = []
 
 -- `refused check CAUSE` and its place
-unfoldable pub refused_check : Items → CheckError → Text
-refused_check m e = codes "refused check " ++ rule_word e.cause ++ place_text m e.at ++ codes "\n"
+unfoldable pub refused_check : ModuleV → CheckError → Text
+refused_check v e = codes "refused check " ++ rule_word e.cause ++ place_text v e.at ++ codes "\n"
 
-abbrev pub is_defined : Function ℕ ℕ ℕ → Bool
-is_defined f = not f.declared
+-- whatever stands for names, types and constants: their numbers, or they themselves
+module _ {N T C : Type 0} where
+  abbrev pub is_defined : Function N T C → Bool
+  is_defined f = not f.declared
 
-abbrev pub block_size : Block ℕ ℕ ℕ → ℕ
-block_size b = length b.instructions
+  abbrev pub block_size : Block N T C → ℕ
+  block_size b = length b.instructions
 
--- how many instructions a function has
-abbrev pub function_size : Function ℕ ℕ ℕ → ℕ
-function_size f = sum_by block_size f.blocks
+  -- how many instructions a function has
+  abbrev pub function_size : Function N T C → ℕ
+  function_size f = sum_by block_size f.blocks
 
 -- `accepted functions F globals G instructions I`; functions that are only declared do not count
-unfoldable pub accepted_text : Items → Text
-accepted_text m = codes "accepted functions " ++ decimal (count_by is_defined m.functions) ++ codes " globals " ++ decimal (length m.globals)
-    ++ codes " instructions " ++ decimal (sum_by function_size m.functions) ++ codes "\n"
+unfoldable pub accepted_text : ModuleV → Text
+accepted_text v = codes "accepted functions " ++ decimal (count_by is_defined v.functions) ++ codes " globals " ++ decimal (length v.globals)
+    ++ codes " instructions " ++ decimal (sum_by function_size v.functions) ++ codes "\n"

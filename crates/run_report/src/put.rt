@@ -1,8 +1,8 @@
 //! Numbers, names and sites in a report.
 ghost use Rattle.std.specs.Prelude.{◌≡◌, ◌++◌, OnOk, decimal, slice_get};
 ghost use Rattle.std.specs.Fmt.{signed_decimal};
-ghost use Rattle.ir_printer.specs.Items.{function_named, site_text};
-ghost use Rattle.run_report.specs.Report.{global_text};
+ghost use Rattle.ir_tree.specs.Written.{shown_module};
+ghost use Rattle.run_report.specs.Report.{function_text, global_text, site_name};
 
 use ir_printer::print::put_global_name;
 use ir_tree::whole::Module;
@@ -26,8 +26,9 @@ pub(crate) fn put_signed(to: &mut Bytes, n: i64) -> Result<(), Memory>
 }
 
 /// `@g`
+#[tactic(auto, using(crate::proofs::Written::global_is, crate::proofs::Written::global_none))]
 pub(crate) fn put_global(to: &mut Bytes, tree: &Module, global: u32) -> Result<(), Memory>
-    ensures { OnOk result (to.new ≡ to.old ++ global_text tree.now global) }
+    ensures { OnOk result (to.new ≡ to.old ++ global_text (slice_get (shown_module tree.now).globals global)) }
 {
     match tree.globals().get(global as usize) {
         Some(found) => put_global_name(to, tree, found.name),
@@ -35,8 +36,9 @@ pub(crate) fn put_global(to: &mut Bytes, tree: &Module, global: u32) -> Result<(
     }
 }
 
+#[tactic(auto, using(crate::proofs::Written::function_is, crate::proofs::Written::function_none))]
 fn put_function(to: &mut Bytes, tree: &Module, function: u32) -> Result<(), Memory>
-    ensures { OnOk result (to.new ≡ to.old ++ function_named tree.now (slice_get tree.now.functions function)) }
+    ensures { OnOk result (to.new ≡ to.old ++ function_text (slice_get (shown_module tree.now).functions function)) }
 {
     match tree.functions().get(function as usize) {
         Some(found) => put_global_name(to, tree, found.name),
@@ -46,7 +48,7 @@ fn put_function(to: &mut Bytes, tree: &Module, function: u32) -> Result<(), Memo
 
 /// `@f:12`
 pub(crate) fn put_site(to: &mut Bytes, tree: &Module, site: Site) -> Result<(), Memory>
-    ensures { OnOk result (to.new ≡ to.old ++ site_text tree.now site) }
+    ensures { OnOk result (to.new ≡ to.old ++ site_name (shown_module tree.now) site) }
 {
     put_function(to, tree, site.function)?;
     to.append(b":")?;

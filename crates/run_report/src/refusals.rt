@@ -1,5 +1,6 @@
 //! Why a module is refused, and what an accepted one holds.
 ghost use Rattle.std.specs.Prelude.{◌≡◌, ◌++◌, ◌+◌, ◌<◌, ◌^◌, OnOk, IfOk, IfSome, decimal, count_by, sum_by, length, codes};
+ghost use Rattle.ir_tree.specs.Written.{shown_module};
 ghost use Rattle.run_report.specs.Refusals.{cause_text, refused_module, rule_word, place_text, refused_check, is_defined, function_size, block_size, accepted_text};
 
 use crate::put::{put_global, put_number, put_site};
@@ -68,7 +69,7 @@ fn rule_word(cause: CheckCause) -> &'static [u8]
 }
 
 fn put_place(to: &mut Bytes, tree: &Module, at: CheckSite) -> Result<(), Memory>
-    ensures { OnOk result (to.new ≡ to.old ++ place_text tree.now at) }
+    ensures { OnOk result (to.new ≡ to.old ++ place_text (shown_module tree.now) at) }
 {
     match at {
         CheckSite::Global(global) => {
@@ -86,7 +87,7 @@ fn put_place(to: &mut Bytes, tree: &Module, at: CheckSite) -> Result<(), Memory>
 /// The line of a module that breaks a rule.
 #[tactic(auto, unfolding(crate::specs::Refusals::refused_check))]
 pub fn refused_check(alloc: Global, tree: &Module, error: CheckError) -> Result<Bytes, Memory>
-    ensures { IfOk result (λ line. line ≡ refused_check tree.now error) }
+    ensures { IfOk result (λ line. line ≡ refused_check (shown_module tree.now) error) }
 {
     let mut line = Bytes::from_slice(alloc, b"refused check ")?;
     line.append(rule_word(error.cause))?;
@@ -138,17 +139,40 @@ fn count_instructions(functions: &[Function]) -> Result<u64, Memory>
     Ok(count)
 }
 
+/// How many functions the module defines.
+#[tactic(auto, using(crate::proofs::Written::defined_same))]
+fn functions_defined(tree: &Module) -> u64
+    ensures { result ≡ count_by is_defined (shown_module tree.now).functions }
+{
+    count_defined(tree.functions())
+}
+
+#[tactic(auto, using(crate::proofs::Written::globals_same))]
+fn count_globals(tree: &Module) -> u64
+    ensures { result ≡ length (shown_module tree.now).globals }
+{
+    tree.globals().len() as u64
+}
+
+/// How many instructions the functions of the module have.
+#[tactic(auto, using(crate::proofs::Written::sizes_same))]
+fn module_size(tree: &Module) -> Result<u64, Memory>
+    ensures { IfOk result (λ n. n ≡ sum_by function_size (shown_module tree.now).functions) }
+{
+    count_instructions(tree.functions())
+}
+
 /// The line of a module that is accepted.
 #[tactic(auto, unfolding(crate::specs::Refusals::accepted_text))]
 pub fn accepted_text(alloc: Global, tree: &Module) -> Result<Bytes, Memory>
-    ensures { IfOk result (λ line. line ≡ accepted_text tree.now) }
+    ensures { IfOk result (λ line. line ≡ accepted_text (shown_module tree.now)) }
 {
     let mut line = Bytes::from_slice(alloc, b"accepted functions ")?;
-    put_number(&mut line, count_defined(tree.functions()))?;
+    put_number(&mut line, functions_defined(tree))?;
     line.append(b" globals ")?;
-    put_number(&mut line, tree.globals().len() as u64)?;
+    put_number(&mut line, count_globals(tree))?;
     line.append(b" instructions ")?;
-    let instructions = count_instructions(tree.functions())?;
+    let instructions = module_size(tree)?;
     put_number(&mut line, instructions)?;
     line.append(b"\n")?;
     Ok(line)

@@ -1,5 +1,6 @@
 //! The report of a run.
 ghost use Rattle.std.specs.Prelude.{◌≡◌, ◌++◌, OnOk, IfOk};
+ghost use Rattle.ir_tree.specs.Written.{shown_module};
 ghost use Rattle.run_report.specs.Report.{end_line, global_line, global_lines, report_text};
 
 use crate::bytes::put_bytes;
@@ -12,7 +13,7 @@ use seq_machine::state::{End, GlobalBytes, Outcome};
 use std::alloc::Global;
 
 fn put_end(to: &mut Bytes, tree: &Module, end: End, steps: u64) -> Result<(), Memory>
-    ensures { OnOk result (to.new ≡ to.old ++ end_line tree.now end steps) }
+    ensures { OnOk result (to.new ≡ to.old ++ end_line (shown_module tree.now) end steps) }
 {
     match end {
         End::Ended(value) => {
@@ -36,7 +37,7 @@ fn put_end(to: &mut Bytes, tree: &Module, end: End, steps: u64) -> Result<(), Me
 }
 
 fn put_line(to: &mut Bytes, tree: &Module, global: &GlobalBytes) -> Result<(), Memory>
-    ensures { OnOk result (to.new ≡ to.old ++ global_line tree.now global.now) }
+    ensures { OnOk result (to.new ≡ to.old ++ global_line (shown_module tree.now) global.now) }
 {
     to.append(b"global ")?;
     put_global(to, tree, global.global)?;
@@ -46,7 +47,7 @@ fn put_line(to: &mut Bytes, tree: &Module, global: &GlobalBytes) -> Result<(), M
 }
 
 fn put_globals(to: &mut Bytes, tree: &Module, globals: &[GlobalBytes]) -> Result<(), Memory>
-    ensures { OnOk result (to.new ≡ to.old ++ global_lines tree.now globals.now) }
+    ensures { OnOk result (to.new ≡ to.old ++ global_lines (shown_module tree.now) globals.now) }
 {
     for global in globals {
         put_line(to, tree, global)?;
@@ -58,7 +59,7 @@ fn put_globals(to: &mut Bytes, tree: &Module, globals: &[GlobalBytes]) -> Result
 /// time linear in the globals' bytes.
 #[tactic(auto, unfolding(crate::specs::Report::report_text))]
 pub fn put_report(to: &mut Bytes, tree: &Module, outcome: &Outcome) -> Result<(), Memory>
-    ensures { OnOk result (to.new ≡ to.old ++ report_text tree.now outcome.now) }
+    ensures { OnOk result (to.new ≡ to.old ++ report_text (shown_module tree.now) outcome.now) }
 {
     put_end(to, tree, outcome.end, outcome.steps)?;
     put_globals(to, tree, outcome.globals.as_slice())
@@ -66,7 +67,7 @@ pub fn put_report(to: &mut Bytes, tree: &Module, outcome: &Outcome) -> Result<()
 
 /// The report of a run of the module.
 pub fn report_text(alloc: Global, tree: &Module, outcome: &Outcome) -> Result<Bytes, Memory>
-    ensures { IfOk result (λ text. text ≡ report_text tree.now outcome.now) }
+    ensures { IfOk result (λ text. text ≡ report_text (shown_module tree.now) outcome.now) }
 {
     let mut text = Bytes::new(alloc);
     put_report(&mut text, tree, outcome)?;
