@@ -1,5 +1,5 @@
 //! Whether a function is one of a module that is read from text.
-ghost use Rattle.std.specs.Prelude.{◌≡◌, ◌&&◌, nat_le, is_some, map, IfOk};
+ghost use Rattle.std.specs.Prelude.{◌≡◌, nat_le, is_some, map, IfOk};
 ghost use Rattle.std.specs.List.{list_all};
 ghost use Rattle.ir_tree.specs.Naming.{type_at};
 ghost use Rattle.ir_tree.specs.Modules.{types_of};
@@ -118,12 +118,6 @@ fn blocks_stand(alloc: Global, tree: &Module, blocks: &[Block]) -> Result<bool, 
     Ok(true)
 }
 
-fn all_six(a: bool, b: bool, c: bool, d: bool, e: bool, f: bool) -> bool
-    ensures { result ≡ (a && b && c && d && e && f) }
-{
-    a && b && c && d && e && f
-}
-
 /// Whether a function is one of a module that is read from text.
 #[tactic(auto, using(crate::proofs::FunctionLemmas::function_is))]
 pub fn function_stands(alloc: Global, tree: &Module, function: &Function) -> Result<bool, Memory>
@@ -136,5 +130,5 @@ pub fn function_stands(alloc: Global, tree: &Module, function: &Function) -> Res
     let form = form_stands(names, function);
     let counts = counts_stand(names, function);
     let blocks = blocks_stand(alloc, tree, function.blocks.as_slice())?;
-    Ok(all_six(answer, params, differ, form, counts, blocks))
+    Ok(answer & params & differ & form & counts & blocks)
 }

@@ -1,5 +1,5 @@
 //! Whether an instruction is one of a module that is read from text.
-ghost use Rattle.std.specs.Prelude.{◌≡◌, ◌++◌, ◌∷◌, [], ◌&&◌, nat_eq, map, IfOk};
+ghost use Rattle.std.specs.Prelude.{◌≡◌, ◌++◌, ◌∷◌, [], nat_eq, map, IfOk};
 ghost use Rattle.std.specs.Option.{option_to_list};
 ghost use Rattle.std.specs.List.{list_all, filter_map};
 ghost use Rattle.ir_tree.specs.Naming.{type_at, constant_at};
@@ -225,12 +225,6 @@ fn indices_stand(alloc: Global, tree: &Module, instruction: &Instruction) -> Res
     }
 }
 
-fn all_five(a: bool, b: bool, c: bool, d: bool, e: bool) -> bool
-    ensures { result ≡ (a && b && c && d && e) }
-{
-    a && b && c && d && e
-}
-
 /// Whether an instruction is one of a module that is read from text.
 pub fn instruction_stands(
     alloc: Global,
@@ -246,5 +240,5 @@ pub fn instruction_stands(
     let registers = are_registers(names, types.as_slice());
     let answer = answer_stands(names, instruction);
     let memory = memory_stands(tree, instruction);
-    Ok(all_five(registers, answer, memory, cases, inside))
+    Ok(registers & answer & memory & cases & inside)
 }

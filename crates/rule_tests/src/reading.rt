@@ -1,11 +1,11 @@
 //! Whether a module is one that is read from text: that nothing in it breaks what reading keeps.
-ghost use Rattle.std.specs.Prelude.{◌≡◌, ◌&&◌, ◌++◌, ◌↔◌, nat_lt, nat_le, length, map, sum_by, IfOk, IsTrue};
+ghost use Rattle.std.specs.Prelude.{◌≡◌, ◌++◌, ◌↔◌, nat_lt, nat_le, map, sum_by, IfOk, IsTrue};
 ghost use Rattle.std.specs.List.{list_all};
 ghost use Rattle.pv_base.specs.Limits.{live_limit};
-ghost use Rattle.ir_tree.specs.Naming.{name_at, type_at};
+ghost use Rattle.ir_tree.specs.Naming.{type_at};
 ghost use Rattle.ir_tree.specs.Modules.{layout_in, types_of};
 ghost use Rattle.ir_tree.specs.Shown.{shown_function};
-ghost use Rattle.ir_rules.specs.Reading.{is_struct, size_of, has_layout, names_differ, function_stands, IsWellFormed, TableStands};
+ghost use Rattle.ir_rules.specs.Reading.{is_struct, size_of, has_layout, function_stands, IsWellFormed, TableStands};
 ghost use Rattle.rule_tests.specs.Tested.{table_stands, items_differ, globals_stand, module_stands};
 
 use crate::differing::names_differ;
@@ -17,7 +17,7 @@ use ir_rules::types::is_struct;
 use ir_tree::items::{Function, Global as Variable, NamedType};
 use ir_tree::nodes::{NameId, TypeId};
 use ir_tree::table::Names;
-use ir_tree::whole::{Module, layout_at, layout_is_bounded};
+use ir_tree::whole::{Module, layout_at};
 use pv_base::limits::LIVE_LIMIT;
 use pv_base::list::List;
 use pv_base::want::Memory;
@@ -29,12 +29,6 @@ fn are_structs(names: &Names, types: &[NamedType]) -> bool
     types.iter().all(|t| is_struct(names, t.of))
 }
 
-fn all_three(a: bool, b: bool, c: bool) -> bool
-    ensures { result ≡ (a && b && c) }
-{
-    a && b && c
-}
-
 /// Whether the names, types and constants of the table are those of a module.
 fn table_stands(alloc: Global, tree: &Module) -> Result<bool, Memory>
     ensures { IfOk result (λ b. b ≡ table_stands tree.now) }
@@ -42,7 +36,7 @@ fn table_stands(alloc: Global, tree: &Module) -> Result<bool, Memory>
     let names = names_stand(tree.names())?;
     let types = types_stand(tree)?;
     let constants = constants_stand(alloc, tree)?;
-    Ok(all_three(names, types, constants))
+    Ok(names & types & constants)
 }
 
 fn type_names(alloc: Global, types: &[NamedType]) -> Result<List<NameId>, Memory>
@@ -86,7 +80,7 @@ fn items_differ(alloc: Global, tree: &Module) -> Result<bool, Memory>
     let structs = are_structs(names, tree.types());
     let types = names_differ(alloc, names, types.as_slice())?;
     let globals = names_differ(alloc, names, globals.as_slice())?;
-    Ok(all_three(structs, types, globals))
+    Ok(structs & types & globals)
 }
 
 fn have_layouts(tree: &Module, globals: &[Variable]) -> bool
@@ -125,12 +119,6 @@ fn is_number(count: usize) -> bool
     count < 4294967296
 }
 
-fn all_four(a: bool, b: bool, c: bool, d: bool) -> bool
-    ensures { result ≡ (a && b && c && d) }
-{
-    a && b && c && d
-}
-
 /// Whether globals have layouts and sizes within the limit, and there are not too many items.
 #[tactic(auto, using(crate::proofs::TestedLemmas::globals_are))]
 fn globals_stand(tree: &Module) -> bool
@@ -141,7 +129,7 @@ fn globals_stand(tree: &Module) -> bool
     let layouts = have_layouts(tree, globals);
     let sizes = sizes_below(tree, globals);
     let variables = is_number(globals.len());
-    all_four(layouts, sizes, variables, is_number(functions.len()))
+    layouts & sizes & variables & is_number(functions.len())
 }
 
 #[tactic(auto, using(crate::proofs::WithinLemmas::all_stop, crate::proofs::WithinLemmas::all_more, crate::proofs::WithinLemmas::all_end))]
@@ -157,12 +145,6 @@ fn functions_stand(alloc: Global, tree: &Module, functions: &[Function]) -> Resu
     Ok(true)
 }
 
-fn all_five(a: bool, b: bool, c: bool, d: bool, e: bool) -> bool
-    ensures { result ≡ (a && b && c && d && e) }
-{
-    a && b && c && d && e
-}
-
 #[tactic(auto, using(crate::proofs::TestedLemmas::module_is))]
 fn module_stands(alloc: Global, tree: &Module) -> Result<bool, Memory>
     ensures { IfOk result (λ b. b ≡ module_stands tree.now) }
@@ -172,7 +154,7 @@ fn module_stands(alloc: Global, tree: &Module) -> Result<bool, Memory>
     let items = items_differ(alloc, tree)?;
     let globals = globals_stand(tree);
     let functions = functions_stand(alloc, tree, tree.functions())?;
-    Ok(all_five(within, table, items, globals, functions))
+    Ok(within & table & items & globals & functions)
 }
 
 /// Whether nothing in a module breaks what reading keeps, nor in its table, whether the items use it or not.
