@@ -3,7 +3,6 @@ use Rattle.std.proofs.Common.{◌≡◌, ℕ, suc, ◌+◌, List, [], ◌∷◌,
 use Rattle.std.specs.Prelude.{Result, Ok, Err}
 use Rattle.ir_rules.specs.Seen.{ModuleV}
 use Rattle.profile_lines.specs.declared.profile.ProfileLoop.{ProfileLoop}
-use Rattle.profile_lines.specs.declared.profile.Profile.{Profile}
 use Rattle.loop_plan.specs.declared.plan.LoopPlan.{LoopPlan}
 use Rattle.loop_plan.specs.declared.plan.Plan.{Plan}
 use Rattle.loop_plan.specs.declared.plan.Reason.{Reason}

@@ -1,7 +1,6 @@
 -- The region of a loop keeps what it promises.
 use Rattle.std.proofs.Common.{◌≡◌, ℕ, suc, Bool, true, false, List, [], ◌∷◌, length, Option, Some, None, refl, sym, subst}
-use Rattle.std.specs.Prelude.{Result, Ok, Err, option_map, option_and_then, find, position, nat_eq, slice_get, if◌then◌else◌}
-use Rattle.int_num.specs.declared.ops.RedKind.{RedKind}
+use Rattle.std.specs.Prelude.{Ok, Err, option_map, option_and_then, find, position, nat_eq, slice_get, if◌then◌else◌}
 use Rattle.pv_base.specs.declared.name.Name.{Name}
 use Rattle.pv_base.specs.declared.place.Site.{Site}
 use Rattle.ir_tree.specs.Table.{same_name}
@@ -22,7 +21,7 @@ use Rattle.loop_plan.specs.Triples.{Joining, joining}
 use Rattle.loop_plan.specs.Phis.{PhiV, phis_of, first_of, listed_instructions, is_integer, is_reduction, register_from, joined, reduced, reduced_by, guess_of, plan_of, plans_from, phi_plans}
 use Rattle.loop_plan.specs.Tests.{counters_of, counted_test}
 use Rattle.loop_plan.specs.Plans.{Shape, label_at, region_with, with_phis, with_parts, with_latch, with_header, known_region, region_in, region_at, region_of}
-use Rattle.loop_plan.specs.Promised.{IsReduced, FitsPhi, IsPlanned, ArePlanned, RegionOf, IsRegion}
+use Rattle.loop_plan.specs.Promised.{FitsPhi, IsPlanned, ArePlanned, RegionOf, IsRegion}
 use Rattle.loop_plan.specs.Laws.{RegionsStand}
 
 only_one : {A : Type 0} (xs : List A) (x : A) → only xs ≡ Some x → xs ≡ x ∷ []

@@ -1,5 +1,5 @@
 -- The classes of a loop's objects, by the lines of its profile, and why they leave a loop out.
-use Rattle.std.specs.Prelude.{ℕ, ◌+◌, Bool, true, false, not, ◌&&◌, ◌||◌, nat_eq, nat_lt, nat_le, List, [], ◌∷◌, ◌++◌, length, map, find, Option, Some, None, option_map, option_and_then, slice_get, is_some, if◌then◌else◌}
+use Rattle.std.specs.Prelude.{ℕ, ◌+◌, Bool, true, false, not, ◌&&◌, ◌||◌, nat_eq, nat_lt, nat_le, List, [], ◌∷◌, length, map, find, Option, Some, None, option_map, option_and_then, slice_get, is_some, if◌then◌else◌}
 use Rattle.std.specs.List.{filter, filter_map, flat_map, list_any, list_all}
 use Rattle.std.specs.Option.{option_or, option_map_or}
 use Rattle.pv_base.specs.declared.place.Site.{Site}
@@ -25,7 +25,6 @@ use Rattle.profile_lines.specs.declared.profile.ProfileLoop.{ProfileLoop}
 use Rattle.loop_plan.specs.Naming.{instruction_at, site_named, maker_named, object_named, global_named, sites_of, places_of}
 use Rattle.loop_plan.specs.Slots.{slot_at, slots_of}
 use Rattle.loop_plan.specs.Triples.{triples_of, triple_with, same_site, touches_element}
-use Rattle.loop_plan.specs.Regions.{among}
 
 -- ---- what is the same
 

@@ -1,5 +1,5 @@
 -- The check lines that a plan puts beside a module: what each says, and before what it stands.
-use Rattle.std.specs.Prelude.{◌+◌, ◌-◌, length, List, [], ◌∷◌, ◌++◌, map, find, Option, Some, None, slice_get, if◌then◌else◌}
+use Rattle.std.specs.Prelude.{◌+◌, ◌-◌, length, List, [], ◌∷◌, ◌++◌, map, find, Some, None, slice_get, if◌then◌else◌}
 use Rattle.std.specs.List.{filter_map, flat_map}
 use Rattle.std.specs.Option.{option_map_or}
 use Rattle.pv_base.specs.declared.place.Site.{Site}

@@ -11,7 +11,7 @@ use Rattle.pv_base.specs.declared.external.External.TheVariants.{Malloc, Calloc}
 use Rattle.ir_tree.specs.declared.instruction.Callee.TheVariants as callee
 use Rattle.ir_tree.specs.declared.instruction.Instruction.TheVariants as tree
 use Rattle.ir_tree.specs.Table.{same_name}
-use Rattle.ir_rules.specs.Seen.{ModuleV, FunctionV, BlockV, InstructionV}
+use Rattle.ir_rules.specs.Seen.{ModuleV, FunctionV, InstructionV}
 use Rattle.ir_rules.specs.Forms.{result_of}
 use Rattle.ir_rules.specs.Calls.{external_of}
 use Rattle.profile_lines.specs.declared.profile.ProfileName.{ProfileName}

@@ -1,6 +1,6 @@
 -- The plan of a profile: each loop's region, tags, expected classes, guesses and triples, or the first reason that leaves it out.
 use Rattle.std.specs.Prelude.{ℕ, suc, List, [], ◌∷◌, ◌++◌, find, Option, Some, None, option_map, slice_get, Result, Ok, Err, if◌then◌else◌}
-use Rattle.std.specs.List.{filter, flat_map}
+use Rattle.std.specs.List.{flat_map}
 use Rattle.pv_base.specs.declared.name.Name.{Name}
 use Rattle.pv_base.specs.declared.place.AllocSite.{AllocSite}
 use Rattle.ir_tree.specs.declared.plans.Expect.{Expect}
@@ -12,7 +12,6 @@ use Rattle.loop_plan.specs.declared.plan.Region.{Region}
 use Rattle.loop_plan.specs.declared.plan.PhiPlan.{PhiPlan}
 use Rattle.loop_plan.specs.declared.plan.CountedTest.{CountedTest}
 use Rattle.loop_plan.specs.declared.plan.LoopPlan.{LoopPlan}
-use Rattle.loop_plan.specs.declared.plan.LeftOut.{LeftOut}
 use Rattle.loop_plan.specs.declared.plan.Plan.{Plan}
 use Rattle.loop_plan.specs.declared.plan.Reason.{Reason}
 use Rattle.loop_plan.specs.declared.plan.Reason.TheVariants as reason

@@ -1,18 +1,15 @@
 -- The region of a loop: whether its lines name what is there, its header and its latch.
-use Rattle.std.specs.Prelude.{ℕ, Bool, true, false, not, ◌&&◌, ◌||◌, nat_eq, List, [], ◌∷◌, length, Option, Some, None, option_and_then, is_some, slice_get, if◌then◌else◌}
+use Rattle.std.specs.Prelude.{ℕ, Bool, false, not, ◌&&◌, ◌||◌, nat_eq, List, [], ◌∷◌, length, Option, Some, None, option_and_then, is_some, slice_get}
 use Rattle.std.specs.List.{filter, filter_map, list_any, list_all, range_with_len}
 use Rattle.std.specs.Option.{option_map_or}
-use Rattle.pv_base.specs.declared.name.Name.{Name}
-use Rattle.ir_rules.specs.Seen.{ModuleV, FunctionV, BlockV}
+use Rattle.ir_rules.specs.Seen.{ModuleV, FunctionV}
 use Rattle.ir_rules.specs.Spots.{has_edge_to}
 use Rattle.ir_rules.specs.Forms.{is_phi}
 use Rattle.profile_lines.specs.declared.profile.ProfileName.{ProfileName}
 use Rattle.profile_lines.specs.declared.profile.PhiLine.{PhiLine}
 use Rattle.profile_lines.specs.declared.profile.UseLine.{UseLine}
-use Rattle.profile_lines.specs.declared.profile.FlowLine.{FlowLine}
-use Rattle.profile_lines.specs.declared.profile.ValueLine.{ValueLine}
 use Rattle.profile_lines.specs.declared.profile.ProfileLoop.{ProfileLoop}
-use Rattle.loop_plan.specs.Naming.{name_of, function_named, block_named, defines, instruction_at, instructions_of, site_named, maker_named, object_named, global_named}
+use Rattle.loop_plan.specs.Naming.{name_of, block_named, defines, instruction_at, instructions_of, site_named, maker_named, object_named, global_named}
 use Rattle.loop_plan.specs.Slots.{slot_at}
 
 -- a number is one of these

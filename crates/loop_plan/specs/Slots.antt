@@ -1,5 +1,5 @@
 -- The access slots of an instruction: the pointers through which it reads or writes memory.
-use Rattle.std.specs.Prelude.{ℕ, suc, Bool, true, false, List, [], ◌∷◌, ◌++◌, drop, nat_eq, find, Option, Some, None, is_some}
+use Rattle.std.specs.Prelude.{ℕ, suc, Bool, true, false, List, [], ◌∷◌, ◌++◌, drop, nat_eq, find, Option, Some}
 use Rattle.pv_base.specs.declared.external.External.{External}
 use Rattle.pv_base.specs.declared.external.External.TheVariants.{Puts, Printf, Memcpy, Memmove, Memset}
 use Rattle.ir_tree.specs.declared.instruction.Callee.TheVariants as callee

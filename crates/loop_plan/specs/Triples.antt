@@ -1,5 +1,5 @@
 -- Reduction operations, and triples: three adjacent instructions that load an element, join an operand into it and store it.
-use Rattle.std.specs.Prelude.{ℕ, suc, ◌+◌, length, find, sum_by, count_by, Bool, true, false, not, ◌&&◌, ◌||◌, nat_eq, List, [], ◌∷◌, ◌++◌, Option, Some, None, option_map, if◌then◌else◌}
+use Rattle.std.specs.Prelude.{ℕ, suc, ◌+◌, length, find, sum_by, count_by, Bool, false, not, ◌&&◌, ◌||◌, nat_eq, List, [], ◌∷◌, ◌++◌, Option, Some, None, option_map, if◌then◌else◌}
 use Rattle.int_num.specs.declared.ops.BinOp.{BinOp}
 use Rattle.int_num.specs.declared.ops.BinOp.TheVariants as bin
 use Rattle.int_num.specs.declared.ops.Flags.{Flags}
@@ -15,7 +15,7 @@ use Rattle.ir_tree.specs.declared.instruction.Callee.TheVariants as callee
 use Rattle.ir_tree.specs.declared.instruction.Instruction.TheVariants as tree
 use Rattle.ir_tree.specs.declared.plans.Triple.{Triple}
 use Rattle.ir_tree.specs.Table.{same_name}
-use Rattle.ir_tree.specs.Trees.{TypeV, IntV}
+use Rattle.ir_tree.specs.Trees.{IntV}
 use Rattle.ir_rules.specs.Seen.{ModuleV, FunctionV, BlockV, InstructionV, OperandV, ArgumentV}
 use Rattle.ir_rules.specs.Same.{same_operand}
 use Rattle.ir_rules.specs.Forms.{uses}

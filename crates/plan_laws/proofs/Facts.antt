@@ -1,10 +1,7 @@
 -- What is known of a loop that is planned.
-use Rattle.std.proofs.Common.{◌≡◌, ℕ, suc, Bool, true, false, List, [], ◌∷◌, ◌++◌, Option, Some, None, refl, sym, subst, ap, ◌∙◌, ◌⊎◌, inl, inr}
-use Rattle.std.specs.Prelude.{Result, Ok, Err, find, option_map, if◌then◌else◌}
-use Rattle.std.specs.List.{flat_map}
+use Rattle.std.proofs.Common.{◌≡◌, ℕ, Bool, true, false, List, Option, Some, None, refl, subst}
+use Rattle.std.specs.Prelude.{Result, Ok, Err, if◌then◌else◌}
 use Rattle.pv_base.specs.declared.place.AllocSite.{AllocSite}
-use Rattle.pv_base.specs.declared.place.Heap.TheVariants.{Unrestricted}
-use Rattle.ir_tree.specs.declared.plans.Tag.{Tag}
 use Rattle.ir_tree.specs.declared.plans.Expect.{Expect}
 use Rattle.ir_rules.specs.Seen.{ModuleV}
 use Rattle.profile_lines.specs.declared.profile.ProfileLoop.{ProfileLoop}
@@ -12,10 +9,8 @@ use Rattle.loop_plan.specs.declared.plan.Region.{Region}
 use Rattle.loop_plan.specs.declared.plan.LoopPlan.{LoopPlan}
 use Rattle.loop_plan.specs.declared.plan.Reason.{Reason}
 use Rattle.loop_plan.specs.declared.plan.Reason.TheVariants as reason
-use Rattle.loop_plan.specs.Heaps.{tags, expected, ordered_guesses, scratch, unrestricted, mixed, is_mixed, guesses_fit, tagged_otherwise, same_heap}
+use Rattle.loop_plan.specs.Heaps.{tags, expected, ordered_guesses, scratch, unrestricted, mixed, guesses_fit}
 use Rattle.loop_plan.specs.Plans.{region_of, loop_plan, in_region, restricted, unmixed, otherwise, guessed, compatible}
-use Rattle.plan_laws.specs.Laws.{Has}
-use Rattle.plan_laws.proofs.Lists.{not_found}
 
 -- a loop that is planned behind these
 pub record Planned (v : ModuleV) (earlier : List LoopPlan) (number : ℕ) (l : ProfileLoop) (p : LoopPlan) : Type 0 where

@@ -1,11 +1,10 @@
 -- The laws of guesses.
-use Rattle.std.proofs.Common.{◌≡◌, ℕ, ◌+◌, ◌≤◌, Bool, true, false, List, [], ◌∷◌, length, Option, Some, None, refl, sym, subst, ap, ◌∙◌, ◌⊎◌, inl, inr}
-use Rattle.std.specs.Prelude.{◌&&◌, ◌||◌, not, nat_eq, nat_lt, nat_le, cond, if◌then◌else◌}
+use Rattle.std.proofs.Common.{◌≡◌, ◌+◌, Bool, true, false, List, [], ◌∷◌, length, Option, Some, None, refl, sym, subst, ap, ◌∙◌, ◌⊎◌, inl, inr}
+use Rattle.std.specs.Prelude.{◌&&◌, ◌||◌, not, nat_eq, nat_lt, nat_le, if◌then◌else◌}
 use Rattle.std.specs.List.{list_any, list_all}
 use Rattle.std.specs.Option.{option_map_or}
 use Rattle.std.proofs.lemmas.Bool.{leb-true}
 use Rattle.pv_base.specs.declared.place.AllocSite.TheVariants.{Global}
-use Rattle.pv_base.specs.declared.place.Heap.{Heap}
 use Rattle.pv_base.specs.declared.place.Heap.TheVariants.{Private}
 use Rattle.ir_tree.specs.declared.plans.MemGuess.{MemGuess}
 use Rattle.ir_rules.specs.Seen.{ModuleV}
@@ -14,7 +13,7 @@ use Rattle.loop_plan.specs.Heaps.{heap_of, is_private, size_of, fits, overlap, a
 use Rattle.plan_laws.specs.Laws.{Has, GuessesAreInside, GuessesAreApart}
 use Rattle.plan_laws.proofs.Lists.{and_both, not_true, all_hold}
 use Rattle.plan_laws.proofs.Same.{numbers, number_same, heaps}
-use Rattle.plan_laws.proofs.Facts.{Planned, facts}
+use Rattle.plan_laws.proofs.Facts.{facts}
 
 or_both : (a b : Bool) → (a || b) ≡ false → (a ≡ false) × (b ≡ false)
 or_both true b e = absurd cc

@@ -1,29 +1,23 @@
 -- The laws of one plan.
-use Rattle.std.proofs.Common.{◌≡◌, ℕ, ◌+◌, ◌≤◌, Bool, true, false, List, [], ◌∷◌, length, Option, Some, None, refl, sym, subst, ap, ◌∙◌, ◌⊎◌, inl, inr}
-use Rattle.std.specs.Prelude.{◌&&◌, not, nat_eq, nat_le, find, map, option_map, is_some, if◌then◌else◌, Ok}
-use Rattle.std.specs.List.{filter, filter_map, list_any, list_all}
-use Rattle.std.specs.Option.{option_or, option_map_or}
-use Rattle.std.proofs.lemmas.Bool.{leb-true}
-use Rattle.int_num.specs.declared.ops.RedKind.{RedKind}
+use Rattle.std.proofs.Common.{◌≡◌, ℕ, Bool, true, false, List, [], ◌∷◌, Option, Some, None, refl, sym, subst, ap, ◌∙◌}
+use Rattle.std.specs.Prelude.{◌&&◌, not, nat_eq, option_map, if◌then◌else◌}
+use Rattle.std.specs.List.{filter_map, list_any, list_all}
+use Rattle.std.specs.Option.{option_or}
 use Rattle.pv_base.specs.declared.place.Site.{Site}
 use Rattle.pv_base.specs.declared.place.AllocSite.{AllocSite}
-use Rattle.pv_base.specs.declared.place.AllocSite.TheVariants.{Global}
 use Rattle.pv_base.specs.declared.place.Heap.{Heap}
-use Rattle.pv_base.specs.declared.place.Heap.TheVariants.{Private, ShortLived, Reduction, ReadOnly, Unrestricted}
+use Rattle.pv_base.specs.declared.place.Heap.TheVariants.{Private, ShortLived, ReadOnly, Unrestricted}
 use Rattle.ir_tree.specs.declared.plans.Tag.{Tag}
 use Rattle.ir_tree.specs.declared.plans.Expect.{Expect}
-use Rattle.ir_tree.specs.declared.plans.MemGuess.{MemGuess}
 use Rattle.ir_rules.specs.Seen.{ModuleV}
 use Rattle.profile_lines.specs.declared.profile.ProfileLoop.{ProfileLoop}
-use Rattle.profile_lines.specs.declared.profile.Profile.{Profile}
-use Rattle.loop_plan.specs.declared.plan.LoopPlan.{LoopPlan}
 use Rattle.loop_plan.specs.Naming.{places_of, sites_of}
 use Rattle.loop_plan.specs.Triples.{same_site}
-use Rattle.loop_plan.specs.Heaps.{Used, uses, uses_of, tag, reduction_tag, when, locals, flows, is_covered, one_kind, element_kind, tag_of, heap_of, heaps_at, expectation, slots_at, expectations_at, expected, is_mixed, is_private, size_of, fits, overlap, are_apart, guesses, is_before, insert, sort, ordered_guesses, same_place, same_heap, same_kinds}
-use Rattle.plan_laws.specs.Laws.{Has, IsPlanOf, SlotsTouchTheirClass, SlotsHaveOneClass, TagsAreOfSites, GuessesAreInside, GuessesAreApart, ReductionsHaveOneKind}
-use Rattle.plan_laws.proofs.Lists.{and_both, not_true, not_false, all_hold, none_holds, one_holds, not_found, in_filter, given_of, gives, of_flat}
-use Rattle.plan_laws.proofs.Same.{numbers, number_same, heaps, some_kinds, site_same, place_same}
-use Rattle.plan_laws.proofs.Facts.{Planned, facts}
+use Rattle.loop_plan.specs.Heaps.{Used, uses, uses_of, tag, reduction_tag, when, locals, flows, is_covered, one_kind, tag_of, heap_of, heaps_at, expectation, slots_at, expectations_at, expected, is_mixed, same_place, same_heap}
+use Rattle.plan_laws.specs.Laws.{Has, SlotsTouchTheirClass, SlotsHaveOneClass, TagsAreOfSites}
+use Rattle.plan_laws.proofs.Lists.{not_false, all_hold, one_holds, not_found, in_filter, given_of, gives, of_flat}
+use Rattle.plan_laws.proofs.Same.{number_same, heaps, site_same, place_same}
+use Rattle.plan_laws.proofs.Facts.{facts}
 
 -- ---- tags
 

@@ -1,17 +1,16 @@
 -- The laws of all planned loops.
-use Rattle.std.proofs.Common.{◌≡◌, ℕ, zero, suc, ◌+◌, Bool, true, false, List, [], ◌∷◌, ◌++◌, Option, Some, None, slice_get, refl, sym, subst, ap, ◌∙◌, ◌⊎◌, inl, inr, arith}
+use Rattle.std.proofs.Common.{◌≡◌, ℕ, suc, ◌+◌, Bool, true, false, List, [], ◌∷◌, ◌++◌, Option, Some, None, slice_get, refl, sym, subst, ap, ◌∙◌, inl, inr, arith}
 use Rattle.std.specs.Prelude.{◌&&◌, not, find, option_map, Result, Ok, Err}
-use Rattle.std.specs.List.{flat_map, list_any}
+use Rattle.std.specs.List.{flat_map}
 use Rattle.pv_base.specs.declared.place.AllocSite.{AllocSite}
 use Rattle.ir_tree.specs.declared.plans.Tag.{Tag}
 use Rattle.ir_rules.specs.Seen.{ModuleV}
 use Rattle.profile_lines.specs.declared.profile.ProfileLoop.{ProfileLoop}
-use Rattle.profile_lines.specs.declared.profile.Profile.{Profile}
 use Rattle.loop_plan.specs.declared.plan.LoopPlan.{LoopPlan}
 use Rattle.loop_plan.specs.declared.plan.Reason.{Reason}
 use Rattle.loop_plan.specs.Heaps.{tags, tag_of, tagged_otherwise, same_place, same_tag}
-use Rattle.loop_plan.specs.Plans.{loop_plan, plan_from, plan_of, planned, with_answer, otherwise}
-use Rattle.plan_laws.specs.Laws.{Has, IsPlanOf, EachHasItsLoop, LoopsAgree}
+use Rattle.loop_plan.specs.Plans.{loop_plan, plan_from, plan_of, planned, with_answer}
+use Rattle.plan_laws.specs.Laws.{Has, EachHasItsLoop, LoopsAgree}
 use Rattle.plan_laws.proofs.Lists.{not_false, none_holds, not_found, in_front, behind, in_flat}
 use Rattle.plan_laws.proofs.Same.{tags as same_tags, place_same}
 use Rattle.plan_laws.proofs.Facts.{Planned, facts}

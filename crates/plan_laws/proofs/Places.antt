@@ -1,5 +1,5 @@
 -- What a profile names is among the places of the module.
-use Rattle.std.proofs.Common.{◌≡◌, ℕ, zero, suc, ◌+◌, ◌≤◌, ◌<◌, Bool, true, false, List, [], ◌∷◌, ◌++◌, map, length, Option, Some, None, slice_get, refl, sym, subst, ap, ◌∙◌, ◌⊎◌, inl, inr, arith}
+use Rattle.std.proofs.Common.{◌≡◌, ℕ, zero, suc, ◌+◌, ◌≤◌, ◌<◌, Bool, true, false, List, [], ◌∷◌, map, length, Option, Some, None, slice_get, refl, sym, subst, ap, ◌⊎◌, inl, inr, arith}
 use Rattle.std.specs.Prelude.{option_map, option_and_then, position, nat_lt, cond, if◌then◌else◌}
 use Rattle.std.specs.List.{range_with_len, position_or_len}
 use Rattle.std.proofs.lemmas.Bool.{leb-true}
@@ -8,10 +8,9 @@ use Rattle.pv_base.specs.declared.place.Site.{Site}
 use Rattle.pv_base.specs.declared.place.AllocSite.{AllocSite}
 use Rattle.pv_base.specs.declared.place.AllocSite.TheVariants.{Global as OfGlobal, At as OfSite}
 use Rattle.ir_rules.specs.Seen.{ModuleV, FunctionV, InstructionV}
-use Rattle.profile_lines.specs.declared.profile.SiteName.{SiteName}
 use Rattle.profile_lines.specs.declared.profile.ObjectName.{ObjectName}
 use Rattle.profile_lines.specs.declared.profile.ObjectName.TheVariants.{Global, At}
-use Rattle.loop_plan.specs.Naming.{instructions_of, instruction_in, instruction_at, makes, making, maker_named, site_named, global_named, object_named, function_sites, sites_from, sites_of, places_of}
+use Rattle.loop_plan.specs.Naming.{instructions_of, instruction_in, instruction_at, makes, making, site_named, global_named, object_named, function_sites, sites_from, sites_of, places_of}
 use Rattle.plan_laws.specs.Laws.{Has}
 use Rattle.plan_laws.proofs.Lists.{in_front, behind}
 

@@ -16,7 +16,6 @@ use Rattle.ir_tree.specs.declared.instruction.Operand.TheVariants.{Constant}
 use Rattle.ir_tree.specs.declared.instruction.Instruction.TheVariants as tree
 use Rattle.ir_tree.specs.declared.plans.Tag.{Tag}
 use Rattle.ir_tree.specs.declared.plans.Expect.{Expect}
-use Rattle.ir_tree.specs.declared.plans.Triple.{Triple}
 use Rattle.ir_tree.specs.declared.instruction.Callee.TheVariants as callee
 use Rattle.ir_tree.specs.Trees.{TypeV, IntV, PtrV, VoidV, IntegerC, NullC, NameC}
 use Rattle.ir_rules.specs.Seen.{ModuleV, FunctionV, GlobalV, InstructionV, OperandV, ArgumentV}

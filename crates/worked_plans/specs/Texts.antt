@@ -1,27 +1,24 @@
 -- How the modules and profiles of the worked plans are written: each has one loop that counts from 0 in `main`.
-use Rattle.std.specs.Prelude.{ℕ, ℤ, List, [], ◌∷◌, ◌++◌, map, codes, Bool, true, false, Option, Some, None}
+use Rattle.std.specs.Prelude.{ℕ, List, [], ◌∷◌, ◌++◌, codes, false, Some, None}
 use Rattle.pv_base.specs.declared.name.Name.{Name}
 use Rattle.pv_base.specs.declared.name.Name.TheVariants as name
 use Rattle.pv_base.specs.Outside.{Text}
 use Rattle.pv_base.specs.declared.place.Site.{Site}
 use Rattle.int_num.specs.declared.ops.BinOp.TheVariants.{Add}
-use Rattle.int_num.specs.declared.ops.Flags.{Flags}
 use Rattle.int_num.specs.declared.ops.Pred.TheVariants.{Slt}
 use Rattle.ir_tree.specs.declared.instruction.Operand.TheVariants.{Register, Constant}
 use Rattle.ir_tree.specs.declared.instruction.Instruction.TheVariants as tree
 use Rattle.ir_tree.specs.Trees.{TypeV, IntV, ConstantV, IntegerC}
-use Rattle.ir_rules.specs.Seen.{ModuleV, FunctionV, BlockV, GlobalV, InstructionV, OperandV, ArmV}
+use Rattle.ir_rules.specs.Seen.{FunctionV, BlockV, GlobalV, InstructionV, OperandV, ArmV}
 use Rattle.profile_lines.specs.declared.profile.ProfileName.{ProfileName}
 use Rattle.profile_lines.specs.declared.profile.ProfileName.TheVariants.{Named}
 use Rattle.profile_lines.specs.declared.profile.SiteName.{SiteName}
 use Rattle.profile_lines.specs.declared.profile.ObjectName.{ObjectName}
-use Rattle.profile_lines.specs.declared.profile.ObjectName.TheVariants.{Global, At}
 use Rattle.profile_lines.specs.declared.profile.PhiWord.{PhiWord}
 use Rattle.profile_lines.specs.declared.profile.PhiLine.{PhiLine}
 use Rattle.profile_lines.specs.declared.profile.UseLine.{UseLine}
 use Rattle.profile_lines.specs.declared.profile.FlowLine.{FlowLine}
 use Rattle.profile_lines.specs.declared.profile.ValueLine.{ValueLine}
-use Rattle.profile_lines.specs.declared.profile.ProfileLoop.{ProfileLoop}
 use Rattle.profile_lines.specs.declared.profile.Profile.{Profile}
 use Rattle.loop_plan.specs.Triples.{no_flags}
 
