@@ -4,11 +4,16 @@ use Rattle.ir_rules.specs.Forms.{is_phi, result_of, uses, targets}
 use Rattle.ir_rules.specs.Same.{same_constant}
 use Rattle.seq_calls.specs.Names.{known, named, width_of, width_behind, extreme}
 use Rattle.loop_plan.specs.Plans.{region_of, loop_plan, plan_of}
-use Rattle.worked_plans.specs.Plans.{CounterIsPrivate, CounterIsReduction, CounterWithoutTest, CounterWithoutPhi, CounterFlows, CounterUnknown, SumIsReduced, ListIsBuiltInTurns, ListFlows, ListGuessLeaves, ListGuessesOverlap, ListIsMixed}
+use Rattle.loop_plan.specs.Lines.{lines_of}
+use Rattle.worked_plans.specs.Plans.{CounterIsPrivate, CounterHasLines, CounterIsReduction, CounterWithoutTest, CounterWithoutPhi, CounterFlows, CounterUnknown, SumIsReduced, ListIsBuiltInTurns, ListFlows, ListGuessLeaves, ListGuessesOverlap, ListIsMixed}
 
 pub counter_is_private : CounterIsPrivate
 unfolding CounterIsPrivate plan_of loop_plan region_of is_phi result_of uses targets same_constant
 counter_is_private = refl
+
+pub counter_has_lines : CounterHasLines
+unfolding CounterHasLines lines_of plan_of loop_plan region_of is_phi result_of uses targets same_constant
+counter_has_lines = refl
 
 pub counter_is_reduction : CounterIsReduction
 unfolding CounterIsReduction plan_of loop_plan region_of is_phi result_of uses targets same_constant

@@ -16,6 +16,9 @@ use Rattle.ir_tree.specs.declared.instruction.Operand.TheVariants.{Constant}
 use Rattle.ir_tree.specs.declared.instruction.Instruction.TheVariants as tree
 use Rattle.ir_tree.specs.declared.plans.Tag.{Tag}
 use Rattle.ir_tree.specs.declared.plans.Expect.{Expect}
+use Rattle.ir_tree.specs.declared.plans.CheckLine.{CheckLine}
+use Rattle.ir_tree.specs.declared.plans.CheckLine.TheVariants as line
+use Rattle.ir_tree.specs.declared.plans.CheckAt.{CheckAt}
 use Rattle.ir_tree.specs.declared.instruction.Callee.TheVariants as callee
 use Rattle.ir_tree.specs.Trees.{TypeV, IntV, PtrV, VoidV, IntegerC, NullC, NameC}
 use Rattle.ir_rules.specs.Seen.{ModuleV, FunctionV, GlobalV, InstructionV, OperandV, ArgumentV}
@@ -35,6 +38,7 @@ use Rattle.loop_plan.specs.declared.plan.Reason.{Reason}
 use Rattle.loop_plan.specs.declared.plan.Reason.TheVariants as reason
 use Rattle.loop_plan.specs.Triples.{no_flags}
 use Rattle.loop_plan.specs.Plans.{plan_of}
+use Rattle.loop_plan.specs.Lines.{lines_of}
 use Rattle.worked_plans.specs.Texts.{called, register, number, word as i32, block, jump, arm, variable, looping, ends_with_0, named, in_main, use_line, phi_line, profiled, at}
 
 -- ---- what plans say
@@ -98,6 +102,21 @@ CounterIsPrivate = plan_of (counter bin.Sub 1) (counter_profile (word.Step (pos 
   } ∷ [];
   left_out = [];
 }
+
+abbrev pub at_site : ℕ → CheckLine → CheckAt
+at_site place l = record { at = site.At (at place); line = l }
+
+-- The check lines of the private counter: its tag before the global, the turn behind the header's phi, the classes before its load and its
+-- store, and the test before the latch's jump.
+unfoldable pub CounterHasLines : Type 0
+CounterHasLines =
+    lines_of (counter bin.Sub 1) (plan_of (counter bin.Sub 1) (counter_profile (word.Step (pos 1))))
+    ≡ record { at = site.Global 0; line = line.Tag Private }
+    ∷ at_site 2 (line.Turn 0)
+    ∷ at_site 4 (line.Expect 0 0 Private)
+    ∷ at_site 6 (line.Expect 0 0 Private)
+    ∷ at_site 9 (line.Test 0)
+    ∷ []
 
 abbrev pub sum : RedKind
 sum = record { op = red.Add; flags = no_flags; width = 32 }

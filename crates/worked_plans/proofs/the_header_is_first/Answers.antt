@@ -1,0 +1,5 @@
+use Rattle.worked_plans.proofs.Edges.{the_header_is_first}
+use Rattle.worked_plans.proofs.the_header_is_first.Goals as goal
+
+pub returns : goal.returns
+returns c = the_header_is_first
